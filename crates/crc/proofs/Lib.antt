@@ -1,0 +1,4 @@
+pub mod Polynomial
+pub mod Places
+pub mod Laws
+pub mod Division

@@ -1,0 +1,63 @@
+-- `crc::crc` meets its contract. The loop's invariant: the CRC of all the octets is what the octets left take the register to.
+-- Assumes nothing.
+use mathlib.Core.Path.{_≡_, refl, sym, _∙_}
+use mathlib.Core.List.{List}
+use Prim.Native.Nat.{ℕ, _+_, _-_, _≤_}
+use lib.ListN.{length, drop, drop-of-length-le}
+use Rattle.crc.specs.Register.{crcFrom, crcOf}
+use borrow.Author.Needs.{needs}
+use Rattle.crc.proofs.Laws.{crcFrom-drop}
+use Rattle.crc.proofs.crc.Statement.{statement}
+use Rattle.crc.proofs.crc.Tie as tie
+
+abbrev Inv-loop : tie.InvT-loop
+Inv-loop octets register₀ i₀ register i = (i ≤ length octets) × (crcOf octets ≡ crcFrom register (drop i octets))
+
+abbrev μ-loop : tie.MeasureT-loop
+μ-loop octets register₀ i₀ register i = length octets - i
+
+loop-holds : tie.Need-loop-holds Inv-loop μ-loop
+unfolding crcOf
+loop-holds c = (search needs, refl)
+
+shared-slice-read-take-octet : tie.Need-shared-slice-read-take-octet Inv-loop μ-loop
+shared-slice-read-take-octet c = search needs
+
+take-octet-requires : tie.Need-take-octet-requires Inv-loop μ-loop
+take-octet-requires c κs = search needs
+
+add-i : tie.Need-add-i Inv-loop μ-loop
+add-i c = search needs
+
+loop-less : tie.Need-loop-less Inv-loop μ-loop
+loop-less c = search needs
+
+loop-again : tie.Need-loop-again Inv-loop μ-loop
+loop-again c =
+    let head = c .before .before .before in
+    let xs : List ℕ = head .before .before .args .octets .now in
+    let i : ℕ = head .loop .i in
+    let r : ℕ = head .loop .register in
+    let rest : crcFrom r (drop i xs) ≡ crcFrom (c .take-octet .result) (drop (i + 1) xs) = rw (c .take-octet .ensures) (crcFrom-drop r xs i (search needs)) in
+    (search needs, head .loop .inv .1 ∙ rest)
+
+returns : tie.Need-returns Inv-loop μ-loop
+unfolding crcFrom
+returns c =
+    let head = c .before in
+    let xs : List ℕ = head .before .before .args .octets .now in
+    sym (rw (drop-of-length-le xs {i = head .loop .i} (c .loop-test .left)) at (head .loop .inv .1))
+
+pub crc-spec : {M : Type 1} → statement M
+crc-spec =
+    tie.close
+    (tie.spec
+    Inv-loop
+    μ-loop
+    loop-holds
+    shared-slice-read-take-octet
+    take-octet-requires
+    add-i
+    loop-less
+    loop-again
+    returns)

@@ -1,0 +1,20 @@
+-- Laws of `between`: a part that lies in its slice.
+-- Assumes nothing.
+use mathlib.Core.Path.{_≡_, ap, _∙_}
+use mathlib.Core.List.{List}
+use Prim.Native.Nat.{ℕ, _-_, _≤_}
+use native.Mathlib.Nat.{sub-zero}
+use native.Mathlib.Omega.{arith}
+use lib.ListN.{length, take, drop, length-take, length-drop}
+use borrow.Author.Tests.{le-leb}
+use Rattle.octets.specs.Copy.{between}
+
+pub between-eq : (start end : ℕ) (s : List ℕ) → start ≤ end → end ≤ length s → between start end s ≡ take (end - start) (drop start s)
+unfolding between
+between-eq start end s h k = simp (le-leb _ _ h, le-leb _ _ k)
+
+pub between-front : (end : ℕ) (s : List ℕ) → end ≤ length s → between 0 end s ≡ take end s
+between-front end s h = between-eq 0 end s (omega arith) h ∙ ap (λ (n : ℕ). take n s) (sub-zero end)
+
+pub between-length : (start end : ℕ) (s : List ℕ) → start ≤ end → end ≤ length s → length (between start end s) ≡ end - start
+between-length start end s h k = ap length (between-eq start end s h k) ∙ simp (length-take, length-drop) (omega arith)

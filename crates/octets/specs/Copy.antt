@@ -1,0 +1,15 @@
+-- Octets laid into a buffer, and parts of a slice. Everything that writes a buffer goes through `laid`.
+use mathlib.Core.Bool.{cond, _&&_}
+use mathlib.Core.List.{List, [], _∷_}
+use Prim.Native.Nat.{ℕ, _+_, _-_}
+use lib.ListN.{length, set, take, drop}
+use lib.Dec.{leb}
+
+-- A buffer with octets laid over its own from a place on; those that would stand past its end are dropped.
+unfoldable pub laid : List ℕ → ℕ → List ℕ → List ℕ
+laid buffer at [] = buffer
+laid buffer at (x ∷ rest) = laid (set buffer at x) (at + 1) rest
+
+-- The octets of a slice from a place up to another, and none where the two do not lie in it in that order.
+unfoldable pub between : ℕ → ℕ → List ℕ → List ℕ
+between start end s = cond (leb start end && leb end (length s)) (take (end - start) (drop start s)) []

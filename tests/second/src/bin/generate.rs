@@ -1,0 +1,468 @@
+//! `generate SEED PACKETS` writes input for `cases`: maps, stores, counts, times and buffers of
+//! every kind, and under them packets, other commands and bad lines.
+
+use std::io::{self, BufWriter, Write};
+use std::process::ExitCode;
+
+use second::hex;
+use second::map::{Area, Flags, Profile, Rights, AREA_PLACES};
+use second::program;
+use second::random::Random;
+use second::sample;
+use second::sample_map::{self, Map, CLAUSES};
+
+const LONG_PACKETS: [usize; 3] = [65_535, 65_536, 69_999];
+/// Stores above this many octets are seldom shown.
+const SMALL_STORE: usize = 1_024;
+
+struct Generator<W: Write> {
+    random: Random,
+    output: W,
+    packets: u64,
+    wanted: u64,
+    long_packets: usize,
+    next_long_packet: u64,
+    store_octets: usize,
+}
+
+fn main() -> ExitCode {
+    let Some((seed, wanted)) = program::seed_and_count() else {
+        return program::fail("usage: generate SEED PACKETS");
+    };
+    let mut generator = Generator {
+        random: Random::new(seed),
+        output: BufWriter::with_capacity(1 << 16, io::stdout().lock()),
+        packets: 0,
+        wanted,
+        long_packets: 0,
+        next_long_packet: 200,
+        store_octets: 128,
+    };
+    program::finish(generator.run())
+}
+
+impl<W: Write> Generator<W> {
+    /// Episodes until there are packets enough; the last line has no newline.
+    fn run(&mut self) -> io::Result<()> {
+        let mut episode = 0;
+        while self.packets < self.wanted {
+            match episode % 20 {
+                0 => self.at_the_start()?,
+                4 => self.unsound_maps()?,
+                8 => self.bad_stores()?,
+                9 => self.bad_counts()?,
+                11 => self.short_buffers()?,
+                2 | 7 | 13 | 17 => self.wide_and_narrow()?,
+                5 | 15 => self.large_dumps()?,
+                18 => self.largest_store(episode)?,
+                _ => self.ordinary()?,
+            }
+            episode += 1;
+        }
+        self.output.write_all(b"C 0000")?;
+        self.output.flush()
+    }
+
+    /// The line program's own profile, as `cases` has it before any P.
+    fn at_the_start(&mut self) -> io::Result<()> {
+        let map = Map { profile: second::hexline::profile(), store_octets: 128, areas_given: 1 };
+        if self.packets > 0 {
+            self.begin(&map)?;
+        }
+        self.packets_under(&map.profile, 100)
+    }
+
+    fn ordinary(&mut self) -> io::Result<()> {
+        let areas = self.random.below(9) as usize;
+        let words = match self.random.below(8) {
+            0 => self.random.below(9),
+            1 => 256,
+            _ => self.random.between(8, 160),
+        };
+        let mut map = sample_map::sound(&mut self.random, words as u32, areas);
+        if map.areas_given < AREA_PLACES && self.random.once_in(3) {
+            // A place past the count that would be unsound, were it used.
+            map.profile.areas[map.areas_given] = map.profile.areas[0];
+            map.areas_given += 1;
+        }
+        self.begin(&map)?;
+        self.packets_under(&map.profile, 120)
+    }
+
+    /// Each clause of soundness in turn.
+    fn unsound_maps(&mut self) -> io::Result<()> {
+        for clause in CLAUSES {
+            let map = sample_map::unsound(&mut self.random, clause);
+            self.begin(&map)?;
+            self.packets_under(&map.profile, 4)?;
+        }
+        Ok(())
+    }
+
+    fn bad_stores(&mut self) -> io::Result<()> {
+        let map = sample_map::sound(&mut self.random, 40, 3);
+        self.begin(&map)?;
+        let odd = self.random.pick(&[1, 79, 81, 83, 127]);
+        let mut stores = vec![odd, 0];
+        if self.packets < 5_000 {
+            stores.push(65_538);
+        }
+        if self.random.once_in(4) {
+            stores.push(self.random.pick(&[65_535, 65_537, 65_538, 65_600]));
+        }
+        for octets in stores {
+            self.store(octets)?;
+            self.packets_under(&map.profile, 4)?;
+        }
+        self.store(map.store_octets)?;
+        self.packets_under(&map.profile, 60)
+    }
+
+    fn bad_counts(&mut self) -> io::Result<()> {
+        let map = sample_map::sound(&mut self.random, 40, 3);
+        self.begin(&map)?;
+        for (category_1, category_9) in [(16_384, 0), (0, 16_384), (65_535, 16_383), (3, 65_535)] {
+            self.counts(category_1, category_9)?;
+            self.packets_under_these_counts(&map.profile, 2)?;
+        }
+        for (category_1, category_9) in [(16_382, 16_383), (16_383, 16_382), (16_383, 16_383), (16_382, 16_380)] {
+            self.counts(category_1, category_9)?;
+            self.packets_under_these_counts(&map.profile, 12)?;
+        }
+        Ok(())
+    }
+
+    fn short_buffers(&mut self) -> io::Result<()> {
+        let map = sample_map::sound(&mut self.random, 40, 3);
+        self.begin(&map)?;
+        for length in [0, 1, 4_095] {
+            self.buffer(length)?;
+            self.packets_under_these_counts(&map.profile, 3)?;
+            self.line(b"O", None)?;
+        }
+        for length in [4_096, 4_097, 8_192] {
+            self.buffer(length)?;
+            self.packets_under_these_counts(&map.profile, 20)?;
+            self.line(b"O", None)?;
+        }
+        Ok(())
+    }
+
+    /// The same packets from the same start under a profile and under one it is wider than.
+    fn wide_and_narrow(&mut self) -> io::Result<()> {
+        let areas = self.random.between(1, 8) as usize;
+        let words = self.random.between(8, 160) as u32;
+        let wide = sample_map::sound(&mut self.random, words, areas);
+        let narrow = sample_map::narrowed(&mut self.random, &wide.profile);
+        let store = self.random.octets(wide.store_octets);
+        let time = self.random.octets(6);
+        let packets: Vec<Vec<u8>> = (0..60)
+            .map(|number| {
+                let maker = if number % 3 == 0 { &wide.profile } else { &narrow };
+                sample::packet(&mut self.random, maker)
+            })
+            .collect();
+        for profile in [&narrow, &wide.profile] {
+            self.profile(profile, usize::from(profile.area_count))?;
+            self.store_octets = store.len();
+            self.line(b"S", Some(&store))?;
+            self.counts(16_380, 0)?;
+            self.line(b"T", Some(&time))?;
+            self.buffer(4_096)?;
+            for packet in &packets {
+                self.packet(packet)?;
+            }
+            self.line(b"M", None)?;
+            self.line(b"O", None)?;
+        }
+        Ok(())
+    }
+
+    /// A store that holds blocks of 240 words.
+    fn large_dumps(&mut self) -> io::Result<()> {
+        let areas = self.random.between(1, 3) as usize;
+        let words = self.random.between(240, 2_048) as u32;
+        let mut map = sample_map::sound(&mut self.random, words, areas);
+        map.profile.flags = Flags::ALL;
+        map.profile.areas[0].rights = Rights::ALL;
+        self.begin(&map)?;
+        for _ in 0..3 {
+            let packet = sample::longest_dump(&mut self.random, &map.profile);
+            self.packet(&packet)?;
+        }
+        self.packets_under(&map.profile, 60)
+    }
+
+    /// 65,536 octets, the most there may be; the areas reach the last word.
+    fn largest_store(&mut self, episode: u64) -> io::Result<()> {
+        if episode >= 20 && !self.random.once_in(3) {
+            return self.ordinary();
+        }
+        let mut map = sample_map::sound(&mut self.random, 32_768, 1);
+        if self.random.once_in(2) {
+            let start = self.random.pick(&[0, 0x1000, 0xFFFF_8000]);
+            map.profile.areas[0] = Area { memory_id: 9, start, length: 32_768, first_word: 0, rights: Rights::ALL };
+        }
+        self.begin(&map)?;
+        self.packets_under(&map.profile, 80)
+    }
+
+    /// Profile, store, counts, time and buffer, all anew.
+    fn begin(&mut self, map: &Map) -> io::Result<()> {
+        self.profile(&map.profile, map.areas_given)?;
+        self.store(map.store_octets)?;
+        self.any_counts()?;
+        self.time()?;
+        let length = self.random.pick(&[4_096, 4_096, 4_096, 4_097, 4_100]);
+        self.buffer(length)
+    }
+
+    /// Packets with every other command among them.
+    fn packets_under(&mut self, profile: &Profile, count: u64) -> io::Result<()> {
+        for _ in 0..count {
+            self.any_packet(profile)?;
+            self.among_packets(profile)?;
+        }
+        self.line(b"M", None)
+    }
+
+    fn packets_under_these_counts(&mut self, profile: &Profile, count: u64) -> io::Result<()> {
+        for _ in 0..count {
+            self.any_packet(profile)?;
+        }
+        self.line(b"M", None)
+    }
+
+    fn any_packet(&mut self, profile: &Profile) -> io::Result<()> {
+        if self.packets < self.next_long_packet {
+            let packet = sample::packet(&mut self.random, profile);
+            return self.packet(&packet);
+        }
+        let octets = LONG_PACKETS[self.long_packets % LONG_PACKETS.len()];
+        self.long_packets += 1;
+        self.next_long_packet += if self.long_packets < 3 { 200 } else { 6_000 };
+        let packet = sample::long_packet(&mut self.random, profile, octets);
+        self.line(b"R", Some(&packet))?;
+        self.packet(&packet)
+    }
+
+    fn packet(&mut self, packet: &[u8]) -> io::Result<()> {
+        self.packets += 1;
+        self.line(b"X", Some(packet))
+    }
+
+    fn among_packets(&mut self, profile: &Profile) -> io::Result<()> {
+        let show_store = if self.store_octets <= SMALL_STORE { 6 } else { 40 };
+        if self.store_octets <= 8_192 && self.random.once_in(show_store) {
+            self.line(b"M", None)?;
+        }
+        match self.random.below(240) {
+            0..=4 => self.line(b"O", None),
+            5..=28 => {
+                let packet = sample::packet(&mut self.random, profile);
+                self.line(b"R", Some(&packet))
+            }
+            29..=52 => self.write_line(),
+            53..=60 => {
+                let many = self.random.below(300) as usize;
+                let count = self.random.pick(&[0, 1, 2, many, many]);
+                let octets = self.random.octets(count);
+                self.line(b"C", Some(&octets))
+            }
+            61..=72 => self.bad_line(),
+            73..=78 => self.any_counts(),
+            79..=84 => self.time(),
+            85..=87 => {
+                let length = self.random.pick(&[4_096, 4_097, 4_099, 5_000]);
+                self.buffer(length)
+            }
+            88..=90 if self.store_octets <= SMALL_STORE => self.store(self.store_octets),
+            _ => Ok(()),
+        }
+    }
+
+    fn profile(&mut self, profile: &Profile, areas_given: usize) -> io::Result<()> {
+        let octets = profile_octets(profile, areas_given);
+        self.line(b"P", Some(&octets))
+    }
+
+    fn store(&mut self, octets: usize) -> io::Result<()> {
+        self.store_octets = octets;
+        let store = if self.random.once_in(8) { vec![0; octets] } else { self.random.octets(octets) };
+        self.line(b"S", Some(&store))
+    }
+
+    fn any_counts(&mut self) -> io::Result<()> {
+        let category_1 = self.any_count();
+        let category_9 = self.any_count();
+        self.counts(category_1, category_9)
+    }
+
+    fn any_count(&mut self) -> u16 {
+        match self.random.below(4) {
+            0 => 0,
+            1 => self.random.pick(&[16_380, 16_381, 16_382, 16_383]),
+            _ => self.random.below(16_384) as u16,
+        }
+    }
+
+    fn counts(&mut self, category_1: u16, category_9: u16) -> io::Result<()> {
+        let [a, b] = category_1.to_be_bytes();
+        let [c, d] = category_9.to_be_bytes();
+        self.line(b"K", Some(&[a, b, c, d]))
+    }
+
+    fn time(&mut self) -> io::Result<()> {
+        let time = self.random.octets(6);
+        self.line(b"T", Some(&time))
+    }
+
+    fn buffer(&mut self, length: u16) -> io::Result<()> {
+        let [upper, lower] = length.to_be_bytes();
+        let octet = self.random.octet();
+        self.line(b"B", Some(&[upper, lower, octet]))
+    }
+
+    fn write_line(&mut self) -> io::Result<()> {
+        let pid = self.random.pick(&[0, 5, 81, 126, 127, 127, 128, 255]);
+        let count = match self.random.below(8) {
+            0 => 16_384,
+            1 => 65_535,
+            2 => 16_383,
+            _ => self.random.below(16_384) as u16,
+        };
+        let ack =
+            if self.random.once_in(10) { self.random.pick(&[16, 17, 128, 255]) } else { self.random.below(16) as u8 };
+        let data_octets = match self.random.below(3) {
+            0 => self.random.pick(&[0, 1, 2, 235, 236, 237, 238, 250, 300, 1_000]),
+            _ => self.random.below(237) as usize,
+        };
+        let exact = data_octets as u16 + 12;
+        let room = match self.random.below(8) {
+            0 => 0,
+            1 => exact - 1,
+            2 => self.random.below(u64::from(exact)) as u16,
+            3 => exact + self.random.between(1, 40) as u16,
+            4 => 248,
+            _ => exact,
+        };
+        let room = if self.random.once_in(400) { 65_535 } else { room };
+        let mut octets = vec![pid];
+        octets.extend_from_slice(&count.to_be_bytes());
+        octets.extend_from_slice(&[ack, self.random.octet(), self.random.octet()]);
+        octets.extend_from_slice(&room.to_be_bytes());
+        octets.extend(self.random.octets(data_octets));
+        self.line(b"W", Some(&octets))
+    }
+
+    /// A line that is none of the commands.
+    fn bad_line(&mut self) -> io::Result<()> {
+        let text: &[u8] = match self.random.below(52) {
+            0 => b"",
+            1 => b" ",
+            2 => b"X",
+            3 => b"P",
+            4 => b"S",
+            5 => b"C",
+            6 => b"R",
+            7 => b"W",
+            8 => b"K",
+            9 => b"T",
+            10 => b"B",
+            11 => b"O ",
+            12 => b"M ",
+            13 => b"O 00",
+            14 => b"M00",
+            15 => b"x 185CC0000005191101000167",
+            16 => b"m",
+            17 => b"Q",
+            18 => b"Z 00",
+            19 => b"X  185CC0000005191101000167",
+            20 => b"X\t185CC0000005191101000167",
+            21 => b"X185CC0000005191101000167",
+            22 => b" X 185CC0000005191101000167",
+            23 => b"X 185CC0000005191101000167\r",
+            24 => b"X 185CC0000005191101000167 ",
+            25 => b"X 185CC000000519110100016",
+            26 => b"X 185CC00000051911010001G7",
+            27 => b"X 18 5C",
+            28 => b"X 185C\x00000",
+            29 => b"C \x80\xFF",
+            30 => b"C 0x00",
+            31 => b"C 0",
+            32 => b"P 05",
+            33 => b"P 050F",
+            34 => b"P 051000",
+            35 => b"P 05FF00",
+            36 => b"P 050F0101",
+            37 => b"P 050F0101000010000000004000000000",
+            38 => b"P 050F010100001000000000400000000008",
+            39 => b"P 050F0101000010000000004000000000FF",
+            40 => b"P 050F010100001000000000400000000007AA",
+            41 => b"K 000000",
+            42 => b"K 0000000000",
+            43 => b"T 0000000000",
+            44 => b"T 00000000000000",
+            45 => b"B 1000",
+            46 => b"B 100000AA",
+            47 => self.random.pick(&[b"B 200100" as &[u8], b"B FFFF00"]),
+            48 => b"W 05000000110100",
+            49 => b"185CC0000005191101000167",
+            50 => return self.long_bad_line(),
+            _ => {
+                let mut octets = profile_octets(&second::hexline::profile(), 8);
+                octets.extend_from_slice(&[0; 14]);
+                return self.line(b"P", Some(&octets));
+            }
+        };
+        self.output.write_all(text)?;
+        self.output.write_all(b"\n")
+    }
+
+    /// Lines that are bad by their length alone, now and then.
+    fn long_bad_line(&mut self) -> io::Result<()> {
+        match self.random.below(20) {
+            0 => self.line(b"S", Some(&[0x5A; 65_601])),
+            1 => self.line(b"X", Some(&[0x18; 70_000])),
+            2 => self.line(b"C", Some(&[0x11; 70_001])),
+            3 => {
+                self.output.write_all(b"C ")?;
+                self.output.write_all(&[b'7'; 140_001])?;
+                self.output.write_all(b"\n")
+            }
+            _ => self.output.write_all(b"R 1\n"),
+        }
+    }
+
+    /// A letter and, where the command takes octets, a space and their digits.
+    fn line(&mut self, letter: &[u8], octets: Option<&[u8]>) -> io::Result<()> {
+        let mut text = letter.to_vec();
+        if let Some(octets) = octets {
+            text.push(b' ');
+            hex::write(octets, &mut text);
+            if self.random.once_in(8) {
+                text[2..].make_ascii_lowercase();
+            }
+        }
+        text.push(b'\n');
+        self.output.write_all(&text)
+    }
+}
+
+fn profile_octets(profile: &Profile, areas_given: usize) -> Vec<u8> {
+    let flags = bits(&[profile.flags.load, profile.flags.dump, profile.flags.check, profile.flags.connection]);
+    let mut octets = vec![profile.pid, flags, profile.area_count];
+    for area in profile.areas.iter().take(areas_given) {
+        octets.push(area.memory_id);
+        octets.extend_from_slice(&area.start.to_be_bytes());
+        octets.extend_from_slice(&area.length.to_be_bytes());
+        octets.extend_from_slice(&area.first_word.to_be_bytes());
+        octets.push(bits(&[area.rights.load, area.rights.dump, area.rights.check]));
+    }
+    octets
+}
+
+/// The first flag is bit 1, the next 2, and so on.
+fn bits(flags: &[bool]) -> u8 {
+    flags.iter().rev().fold(0, |octet, flag| octet * 2 + u8::from(*flag))
+}

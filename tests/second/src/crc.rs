@@ -1,0 +1,55 @@
+//! The error control of TC packets and the value of check reports: the 16-bit CRC,
+//! polynomial x^16 + x^12 + x^5 + 1, start all ones, most significant bit first.
+
+/// x^12 + x^5 + 1; x^16 is the bit that is shifted out.
+const POLYNOMIAL: u16 = 0x1021;
+const START: u16 = 0xFFFF;
+
+/// For each octet, what eight shifts make of it in the upper half of the register.
+const TABLE: [u16; 256] = table();
+
+/// The CRC of the octets.
+pub fn crc(octets: &[u8]) -> u16 {
+    let mut register = START;
+    for octet in octets {
+        let [upper, lower] = register.to_be_bytes();
+        register = u16::from_be_bytes([lower, 0]) ^ TABLE[usize::from(upper ^ octet)];
+    }
+    register
+}
+
+/// The same value one bit at a time, as 004 appendix A4.2 has it. The tests hold the table against it.
+pub fn bit_by_bit(octets: &[u8]) -> u16 {
+    let mut register = START;
+    for octet in octets {
+        for place in (0..8).rev() {
+            let bit_in = (octet >> place) & 1 == 1;
+            let bit_out = register & 0x8000 != 0;
+            register <<= 1;
+            if bit_in != bit_out {
+                register ^= POLYNOMIAL;
+            }
+        }
+    }
+    register
+}
+
+const fn table() -> [u16; 256] {
+    let mut table = [0; 256];
+    let mut octet = 0;
+    while octet < 256 {
+        let mut register = (octet as u16) << 8;
+        let mut shift = 0;
+        while shift < 8 {
+            let bit_out = register & 0x8000 != 0;
+            register <<= 1;
+            if bit_out {
+                register ^= POLYNOMIAL;
+            }
+            shift += 1;
+        }
+        table[octet] = register;
+        octet += 1;
+    }
+    table
+}

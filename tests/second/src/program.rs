@@ -1,0 +1,54 @@
+//! What the programs share: input from standard input or the one file named, output to
+//! standard output, and a quiet end when the output is closed.
+
+use std::env;
+use std::fs::File;
+use std::io::{self, ErrorKind, Read, Write};
+use std::process::ExitCode;
+
+/// Runs a stream program over the input its arguments name.
+pub fn run(serve: fn(&mut dyn Read, &mut dyn Write) -> io::Result<()>) -> ExitCode {
+    let arguments: Vec<_> = env::args_os().skip(1).collect();
+    let mut input: Box<dyn Read> = match arguments.as_slice() {
+        [] => Box::new(io::stdin().lock()),
+        [path] => match File::open(path) {
+            Ok(file) => Box::new(file),
+            Err(error) => return fail(&format!("{}: {error}", path.to_string_lossy())),
+        },
+        _ => return fail("give no argument or one file"),
+    };
+    finish(serve(&mut input, &mut io::stdout().lock()))
+}
+
+/// A closed output ends a program quietly; any other trouble is said.
+pub fn finish(result: io::Result<()>) -> ExitCode {
+    match result {
+        Ok(()) => ExitCode::SUCCESS,
+        Err(error) if error.kind() == ErrorKind::BrokenPipe => ExitCode::SUCCESS,
+        Err(error) => fail(&error.to_string()),
+    }
+}
+
+/// Says what is wrong on standard error.
+pub fn fail(message: &str) -> ExitCode {
+    // Where standard error is closed as well there is nobody left to tell.
+    let _ = writeln!(io::stderr(), "{message}");
+    ExitCode::from(2)
+}
+
+/// The two numbers of a generator: a seed, decimal or 0x and hexadecimal, and how many to make.
+pub fn seed_and_count() -> Option<(u64, u64)> {
+    let arguments: Vec<String> =
+        env::args_os().skip(1).map(|argument| argument.to_string_lossy().into_owned()).collect();
+    match arguments.as_slice() {
+        [seed, count] => Some((number(seed)?, number(count)?)),
+        _ => None,
+    }
+}
+
+fn number(text: &str) -> Option<u64> {
+    match text.strip_prefix("0x") {
+        Some(digits) => u64::from_str_radix(digits, 16).ok(),
+        None => text.parse().ok(),
+    }
+}

@@ -1,0 +1,121 @@
+//! What the tests share: hexadecimal text, packets with their error control, a unit to send them to.
+
+#![allow(dead_code)]
+
+use second::crc::crc;
+use second::hexline;
+use second::map::{Area, Flags, Profile, Rights};
+use second::refusal::Refusal;
+use second::terminal::{self, Answer, Verdict};
+use second::tm::Counts;
+
+/// The octets of hexadecimal text; spaces may stand anywhere.
+pub fn hex(text: &str) -> Vec<u8> {
+    let digits: Vec<u32> = text
+        .chars()
+        .filter(|character| *character != ' ')
+        .map(|character| character.to_digit(16).expect("a digit"))
+        .collect();
+    assert!(digits.len().is_multiple_of(2), "an even count of digits");
+    digits.chunks(2).map(|pair| (pair[0] * 16 + pair[1]) as u8).collect()
+}
+
+/// The octets and their error control after them.
+pub fn sealed(text: &str) -> Vec<u8> {
+    let mut octets = hex(text);
+    let error_control = crc(&octets);
+    octets.extend_from_slice(&error_control.to_be_bytes());
+    octets
+}
+
+/// A packet for PID 5 with count 0, given ack, service, subtype and data.
+pub fn packet(ack: u8, service: u8, subtype: u8, data: &[u8]) -> Vec<u8> {
+    let mut text = format!("185C C000 {:04X} {:02X} {service:02X} {subtype:02X} 00", data.len() + 5, 0x10 | ack);
+    for octet in data {
+        text.push_str(&format!("{octet:02X}"));
+    }
+    sealed(&text)
+}
+
+/// The same with the data as text.
+pub fn request(ack: u8, service: u8, subtype: u8, data: &str) -> Vec<u8> {
+    packet(ack, service, subtype, &hex(data))
+}
+
+pub fn area(memory_id: u8, start: u32, length: u32, first_word: u32) -> Area {
+    Area { memory_id, start, length, first_word, rights: Rights::ALL }
+}
+
+pub fn profile(areas: &[Area]) -> Profile {
+    let mut profile = Profile { pid: 5, flags: Flags::ALL, area_count: areas.len() as u8, ..Profile::default() };
+    profile.areas[..areas.len()].copy_from_slice(areas);
+    profile
+}
+
+pub fn refused(number: u8, detail: u16) -> Verdict {
+    Verdict::Refused(Refusal { number, detail })
+}
+
+/// A terminal with all that stays from packet to packet.
+pub struct Unit {
+    pub profile: Profile,
+    pub counts: Counts,
+    pub time: [u8; 6],
+    pub store: Vec<u8>,
+    pub output: Vec<u8>,
+}
+
+impl Unit {
+    /// The line program's profile, store and buffer.
+    pub fn new() -> Unit {
+        Unit::with(hexline::profile(), 128)
+    }
+
+    pub fn with(profile: Profile, store_octets: usize) -> Unit {
+        Unit { profile, counts: Counts::default(), time: [0; 6], store: vec![0; store_octets], output: vec![0; 4096] }
+    }
+
+    pub fn send(&mut self, packet: &[u8]) -> Answer {
+        let answer = terminal::answer(&self.profile, self.counts, self.time, packet, &mut self.store, &mut self.output);
+        self.counts = answer.counts;
+        answer
+    }
+
+    /// Sends the packet and expects acceptance with these frames.
+    pub fn accepts(&mut self, packet: &[u8], frames: &str) {
+        let answer = self.send(packet);
+        assert_eq!(answer.verdict, Verdict::Accepted);
+        assert_eq!(self.output[..answer.written], hex(frames));
+    }
+
+    /// Sends the packet and expects the refusal, its one frame, the count and an untouched store.
+    pub fn refuses(&mut self, packet: &[u8], number: u8, detail: u16) {
+        let store = self.store.clone();
+        let before = self.counts;
+        self.output.fill(0xA5);
+        let answer = self.send(packet);
+        assert_eq!(answer.verdict, refused(number, detail));
+        assert_eq!(answer.written, 24);
+        assert_eq!(self.output[0..2], (0x0801 + u16::from(self.profile.pid) * 16).to_be_bytes());
+        assert_eq!(self.output[2..4], (0xC000 + before.category_1).to_be_bytes());
+        assert_eq!(self.output[4..6], [0x00, 0x11]);
+        assert_eq!(self.output[6..12], self.time);
+        assert_eq!(self.output[12..16], [0, 1, 2, 0]);
+        assert_eq!(self.output[16..20], packet[0..4]);
+        assert_eq!(self.output[20..22], [0, number]);
+        assert_eq!(self.output[22..24], detail.to_be_bytes());
+        assert!(self.output[24..].iter().all(|octet| *octet == 0xA5));
+        let next = if before.category_1 == 16_383 { 0 } else { before.category_1 + 1 };
+        assert_eq!(answer.counts, Counts { category_1: next, category_9: before.category_9 });
+        assert_eq!(self.store, store);
+    }
+
+    /// Sends the packet and expects a refusal without a frame that changes nothing at all.
+    pub fn ignores(&mut self, packet: &[u8], number: u8) {
+        let before = (self.counts, self.store.clone(), self.output.clone());
+        let answer = self.send(packet);
+        assert_eq!(answer.verdict, refused(number, 0));
+        assert_eq!(answer.written, 0);
+        assert!(before == (self.counts, self.store.clone(), self.output.clone()));
+    }
+}
