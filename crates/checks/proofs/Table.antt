@@ -1,11 +1,12 @@
 -- Laws of tables of checks: a refusal is given exactly when its row is the first that fails; tables joined; two tables side by side.
 -- Assumes nothing.
-use mathlib.Core.Path.{_≡_, refl, sym, ap}
-use mathlib.Core.Bool.{Bool, true, false, cond}
+use mathlib.Core.Path.{_≡_, refl, sym, ap, _∙_}
+use mathlib.Core.Bool.{Bool, true, false, cond, false≢true}
 use mathlib.Core.Logic.{_⊎_, inl, inr, ⊎-elim}
 use mathlib.Core.List.{List, [], _∷_, _++_}
-use Prim.Native.Nat.{_≤_, zero-le, suc-le-suc}
-use Rattle.checks.specs.Table.{Row, answer, place, First, AllHold}
+use Prim.Native.Nat.{ℕ, suc, _≤_, zero-le, suc-le-suc}
+use native.Mathlib.Omega.{arith}
+use Rattle.checks.specs.Table.{Row, answer, place, First, AllHold, firstFrom}
 
 -- A test is true or false.
 pub by-test {ℓ} : {X : Type ℓ} (b : Bool) → (b ≡ true → X) → (b ≡ false → X) → X
@@ -42,6 +43,42 @@ pub answer-append : {A : Type 0} (fine : A) (xs ys : List (Row A)) → answer fi
 unfolding answer
 answer-append fine [] ys = refl
 answer-append fine (x ∷ xs) ys = ap (λ z. cond (x .holds) z (x .refusal)) (answer-append fine xs ys)
+
+-- A test of the answers tells every row's refusal from acceptance.
+unfoldable pub Refusing : {A : Type 0} → (A → Bool) → List (Row A) → Type 0
+Refusing test [] = Unit
+Refusing test (r ∷ rest) = (test (r .refusal) ≡ false) × Refusing test rest
+
+-- Where the answer is acceptance, every row holds.
+pub accepted-all : {A : Type 0} (test : A → Bool) (fine : A) (rows : List (Row A)) → Refusing test rows → test (answer fine rows) ≡ true → AllHold rows
+unfolding Refusing AllHold answer
+accepted-all test fine [] refusing h = tt
+accepted-all test fine (r ∷ rest) refusing h =
+    by-test (r .holds)
+    (λ t. (t, accepted-all test fine rest (refusing .1) (rw t at h)))
+    (λ e. absurd (false≢true (sym (refusing .0) ∙ (rw e at h))))
+
+-- ---- the first of some tests that fails
+
+-- Every test of a list holds.
+unfoldable pub AllTrue : List Bool → Type 0
+AllTrue [] = Unit
+AllTrue (b ∷ rest) = (b ≡ true) × AllTrue rest
+
+-- Where no test fails, all hold.
+pub none-wrong : (k : ℕ) (tests : List Bool) → firstFrom (suc k) tests ≡ 0 → AllTrue tests
+unfolding firstFrom AllTrue
+none-wrong k [] h = tt
+none-wrong k (b ∷ rest) h =
+    by-test b
+    (λ t. (t, none-wrong (suc k) rest (rw t at h)))
+    (λ e. let z : suc k ≡ 0 = rw e at h in absurd (omega arith))
+
+-- Where all hold, no test fails.
+pub all-right : (k : ℕ) (tests : List Bool) → AllTrue tests → firstFrom k tests ≡ 0
+unfolding firstFrom AllTrue
+all-right k [] h = refl
+all-right k (b ∷ rest) h = rw (h .0) (all-right (suc k) rest (h .1))
 
 -- ---- two tables side by side
 

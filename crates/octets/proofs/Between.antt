@@ -1,13 +1,16 @@
 -- Laws of `between`: a part that lies in its slice.
 -- Assumes nothing.
-use mathlib.Core.Path.{_≡_, ap, _∙_}
-use mathlib.Core.List.{List}
-use Prim.Native.Nat.{ℕ, _-_, _≤_}
+use mathlib.Core.Path.{_≡_, refl, ap, _∙_}
+use mathlib.Core.Bool.{Bool, true, false, _&&_}
+use mathlib.Core.List.{List, []}
+use Prim.Native.Nat.{ℕ, _-_, _≤_, _<_, zero-le}
 use native.Mathlib.Nat.{sub-zero}
 use native.Mathlib.Omega.{arith}
 use lib.ListN.{length, take, drop, length-take, length-drop}
-use borrow.Author.Tests.{le-leb}
+use lib.Dec.{leb}
+use borrow.Author.Tests.{le-leb, lt-leb}
 use Rattle.octets.specs.Copy.{between}
+use Rattle.octets.proofs.Order.{by-order}
 
 pub between-eq : (start end : ℕ) (s : List ℕ) → start ≤ end → end ≤ length s → between start end s ≡ take (end - start) (drop start s)
 unfolding between
@@ -18,3 +21,22 @@ between-front end s h = between-eq 0 end s (omega arith) h ∙ ap (λ (n : ℕ).
 
 pub between-length : (start end : ℕ) (s : List ℕ) → start ≤ end → end ≤ length s → length (between start end s) ≡ end - start
 between-length start end s h k = ap length (between-eq start end s h k) ∙ simp (length-take, length-drop) (omega arith)
+
+pub between-past : (start end : ℕ) (s : List ℕ) → length s < start → between start end s ≡ []
+unfolding between
+between-past start end s h =
+    by-order start end
+    (λ k. simp (le-leb start end k, lt-leb end (length s) (omega arith)))
+    (λ k. simp (lt-leb start end k))
+
+-- A part is never longer than from its start to its end.
+pub between-most : (start end : ℕ) (s : List ℕ) → length (between start end s) ≤ end - start
+unfolding between
+between-most start end s =
+    by-test (leb start end && leb end (length s))
+    (λ t. rw t (simp (length-take, length-drop) (omega arith)))
+    (λ e. rw e zero-le)
+  where
+    by-test : {X : Type 0} (b : Bool) → (b ≡ true → X) → (b ≡ false → X) → X
+    by-test true f g = f refl
+    by-test false f g = g refl

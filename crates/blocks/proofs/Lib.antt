@@ -1,0 +1,5 @@
+pub mod Blocks
+pub mod Each
+pub mod First
+pub mod Walk
+pub mod WellFormed

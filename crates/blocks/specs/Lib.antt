@@ -1,0 +1,4 @@
+pub mod Blocks
+pub mod Each
+pub mod Examples
+pub mod Form

@@ -1,0 +1,4 @@
+pub mod Place
+pub mod Sound
+pub mod Wider
+pub mod Examples

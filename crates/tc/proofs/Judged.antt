@@ -1,0 +1,34 @@
+-- The reader's verdict, check by check: each refusal where its check is the first that fails, and acceptance where none does.
+-- Assumes nothing.
+use mathlib.Core.Path.{_≡_}
+use mathlib.Core.Bool.{true, false}
+use mathlib.Core.List.{List}
+use Prim.Native.Nat.{ℕ, min, _≤_, _<_}
+use lib.ListN.{length}
+use lib.Dec.{eqb}
+use borrow.Author.Tests.{le-leb, lt-leb}
+use Rattle.checks.specs.declared.Verdict.the-variants.{Accepted, Short, Length, Control, Header}
+use Rattle.checks.specs.Table.{answer}
+use Rattle.tc.specs.Layout.{errorControl, covered}
+use Rattle.tc.specs.Reader.{judged, readerRows, lengthRight, controlRight, headerFault}
+
+module _ (p : List ℕ) where
+  pub judged-short : length p < 6 → judged p ≡ Short
+  unfolding judged readerRows answer
+  judged-short h = simp (lt-leb _ _ h)
+
+  pub judged-length : 6 ≤ length p → lengthRight p ≡ false → judged p ≡ Length (min (length p) 65535)
+  unfolding judged readerRows answer
+  judged-length h l = simp (le-leb _ _ h, l)
+
+  pub judged-control : 6 ≤ length p → lengthRight p ≡ true → controlRight p ≡ false → judged p ≡ Control (errorControl (covered p))
+  unfolding judged readerRows answer
+  judged-control h l k = simp (le-leb _ _ h, l, k)
+
+  pub judged-header : 6 ≤ length p → lengthRight p ≡ true → controlRight p ≡ true → eqb (headerFault p) 0 ≡ false → judged p ≡ Header (headerFault p)
+  unfolding judged readerRows answer
+  judged-header h l k f = simp (le-leb _ _ h, l, k, f)
+
+  pub judged-accepted : 6 ≤ length p → lengthRight p ≡ true → controlRight p ≡ true → eqb (headerFault p) 0 ≡ true → judged p ≡ Accepted
+  unfolding judged readerRows answer
+  judged-accepted h l k f = simp (le-leb _ _ h, l, k, f)

@@ -1,0 +1,4 @@
+pub mod Exactly
+pub mod Judged
+pub mod Ordered
+pub mod RoundTrip

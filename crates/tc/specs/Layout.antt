@@ -1,0 +1,49 @@
+-- Document 01, "TC packet": the layout, once. The reader takes these places; the writer lays these octets.
+use mathlib.Core.List.{List, [], _∷_, _++_}
+use Prim.Native.Nat.{ℕ, _+_, _-_}
+use lib.ListN.{length, take}
+use Rattle.octets.specs.Numbers.{octet, word16, octets16}
+use Rattle.octets.specs.Fields.{packetId, idOf, sequence, controlOf, header, headerOf, apidOf}
+use Rattle.octets.specs.Copy.{between}
+use Rattle.crc.specs.Register.{crcOf}
+use Rattle.tc.specs.declared.Fields.{Fields}
+
+-- Error control over some octets: the CRC of document 01, whatever the checksum flag says.
+unfoldable pub errorControl : List ℕ → ℕ
+errorControl octets = crcOf octets
+
+-- The octets that a packet's error control is over: every earlier one.
+abbrev pub covered : List ℕ → List ℕ
+covered p = take (length p - 2) p
+
+-- The fields, each at its place: packet ID at 0, sequence control at 2, then from 6 on an octet of PUS version, checksum flag and ack, and an octet each for type, subtype and pad.
+unfoldable pub fieldsOf : List ℕ → Fields
+fieldsOf p = record {
+  apid = packetId (word16 p 0) .apid;
+  count = sequence (word16 p 2) .count;
+  checksum = header (octet p 6) .checksum;
+  ack = header (octet p 6) .ack;
+  kind = octet p 7;
+  subtype = octet p 8;
+  pad = octet p 9;
+}
+
+-- The application data: from octet 10 up to the error control.
+unfoldable pub applicationOf : List ℕ → List ℕ
+applicationOf p = between 10 (length p - 2) p
+
+-- The ten octets before the application data of a packet with these fields and so many octets of it; the length field is the total of octets minus 7.
+unfoldable pub headOf : Fields → ℕ → List ℕ
+headOf f octets =
+    octets16 (idOf (record { version = 0; kind = 1; header = 1; apid = f .apid }))
+    ++ octets16 (controlOf (record { flags = 3; count = f .count }))
+    ++ octets16 (octets + 12 - 7)
+    ++ headerOf (record { version = 0; checksum = f .checksum; ack = f .ack }) ∷ f .kind ∷ f .subtype ∷ f .pad ∷ []
+
+-- The octets of a packet before its error control.
+unfoldable pub bodyOf : Fields → List ℕ → List ℕ
+bodyOf f application = headOf f (length application) ++ application
+
+-- The whole packet.
+unfoldable pub packetOf : Fields → List ℕ → List ℕ
+packetOf f application = bodyOf f application ++ octets16 (errorControl (bodyOf f application))

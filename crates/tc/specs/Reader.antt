@@ -1,0 +1,69 @@
+-- Document 01, "Refusal numbers in checking order": the reader's checks 42, 1, 2 and 16, and what it returns.
+use mathlib.Core.Bool.{Bool, cond, _&&_}
+use mathlib.Core.List.{List, [], _∷_}
+use Prim.Native.Nat.{ℕ, _+_, _-_, min}
+use lib.ListN.{length}
+use lib.Dec.{leb, eqb}
+use Rattle.octets.specs.Numbers.{octet, word16}
+use Rattle.octets.specs.Fields.{packetId, sequence, header}
+use Rattle.octets.specs.declared.fields.PacketId.{PacketId}
+use Rattle.octets.specs.declared.fields.Sequence.{Sequence}
+use Rattle.octets.specs.declared.fields.Header.{Header}
+use Rattle.checks.specs.declared.Verdict.{Verdict}
+use Rattle.checks.specs.declared.Verdict.the-variants.{Accepted, Short, Length, Control, Header as BadHeader}
+use Rattle.checks.specs.Verdict.{isAccepted}
+use Rattle.checks.specs.Table.{Row, row, answer, firstWrong}
+use Rattle.tc.specs.declared.Fields.{Fields}
+use Rattle.tc.specs.declared.Reading.{Reading}
+use Rattle.tc.specs.Layout.{errorControl, covered, fieldsOf, applicationOf}
+
+-- The received count is at least 12, at most 248, and the length field plus 7.
+unfoldable pub lengthRight : List ℕ → Bool
+lengthRight p = leb 12 (length p) && leb (length p) 248 && eqb (length p) (word16 p 4 + 7)
+
+-- The error control received, the last two octets, is the right value.
+unfoldable pub controlRight : List ℕ → Bool
+controlRight p = eqb (word16 p (length p - 2)) (errorControl (covered p))
+
+-- Version, type bit, header flag, sequence flags and PUS version are right, in that order.
+abbrev pub headerTests : PacketId → Sequence → Header → List Bool
+headerTests id control head =
+    eqb (id .version) 0
+    ∷ eqb (id .kind) 1
+    ∷ eqb (id .header) 1
+    ∷ eqb (control .flags) 3
+    ∷ eqb (head .version) 0
+    ∷ []
+
+-- The first wrong of them, counted from 1; 0 where none is.
+unfoldable pub firstFault : PacketId → Sequence → Header → ℕ
+firstFault id control head = firstWrong (headerTests id control head)
+
+-- That fault in a packet's own header.
+unfoldable pub headerFault : List ℕ → ℕ
+headerFault p = firstFault (packetId (word16 p 0)) (sequence (word16 p 2)) (header (octet p 6))
+
+-- The reader's rows of the table, in its order.
+unfoldable pub readerRows : List ℕ → List (Row Verdict)
+readerRows p =
+    row Short (leb 6 (length p))
+    ∷ row (Length (min (length p) 65535)) (lengthRight p)
+    ∷ row (Control (errorControl (covered p))) (controlRight p)
+    ∷ row (BadHeader (headerFault p)) (eqb (headerFault p) 0)
+    ∷ []
+
+-- The reader's verdict.
+unfoldable pub judged : List ℕ → Verdict
+judged p = answer Accepted (readerRows p)
+
+-- The fields of a refused packet: all of them 0.
+abbrev pub noFields : Fields
+noFields = record { apid = 0; count = 0; checksum = 0; ack = 0; kind = 0; subtype = 0; pad = 0 }
+
+-- What the reader returns.
+unfoldable pub readingOf : List ℕ → Reading
+readingOf p = record { verdict = judged p; fields = cond (isAccepted (judged p)) (fieldsOf p) noFields }
+
+-- The application data that goes with a verdict on a packet: an empty part where it was refused.
+unfoldable pub dataFor : Verdict → List ℕ → List ℕ
+dataFor v p = cond (isAccepted v) (applicationOf p) []

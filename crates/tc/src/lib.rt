@@ -1,0 +1,51 @@
+// Telecommand packets of document 01: a reader and a writer over one layout.
+ghost use mathlib.Core.Path.{_≡_};
+ghost use Rattle.tc.specs.Layout.{errorControl};
+
+pub mod reader;
+pub mod writer;
+
+// What a TC packet carries besides its application data.
+pub struct Fields {
+    pub apid: u16,
+    pub count: u16,
+    pub checksum: u8,
+    pub ack: u8,
+    pub kind: u8,
+    pub subtype: u8,
+    pub pad: u8,
+}
+
+// What the reader returns: the verdict, and the fields, all of them 0 where the packet is refused.
+pub struct Reading {
+    pub verdict: checks::Verdict,
+    pub fields: Fields,
+}
+
+// What the writer is asked to put into a packet besides its application data.
+pub struct Order {
+    pub pid: u8,
+    pub count: u16,
+    pub ack: u8,
+    pub kind: u8,
+    pub subtype: u8,
+}
+
+// What the writer answers.
+pub enum Written {
+    // The packet's length.
+    Packet(usize),
+    // 50: PID above 127, count above 16,383 or ack above 15.
+    BadField,
+    // 51: application data above 236 octets.
+    BadData,
+    // 52: a buffer too short.
+    NoRoom,
+}
+
+// Error control over some octets, for the reader and the writer alike.
+pub fn error_control(octets: &[u8]) -> u16
+    ensures { λ r. ⌜ r ≡ errorControl (now (octets .entry)) ⌝ }
+{
+    crc::crc(octets)
+}

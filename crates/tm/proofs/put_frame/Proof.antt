@@ -1,0 +1,63 @@
+-- `tm::put_frame` meets its contract: the head is laid, and behind it the source data.
+-- Assumes nothing.
+use mathlib.Core.Path.{_≡_, ap, sym, _∙_}
+use mathlib.Core.List.{List}
+use Prim.Native.Nat.{ℕ, _+_}
+use native.Mathlib.Nat.{add-comm}
+use lib.ListN.{length}
+use denote.Ref.{now}
+use borrow.Author.Needs.{needs}
+use Rattle.octets.specs.Copy.{laid}
+use Rattle.tm.proofs.Elements.{field-length}
+use Rattle.tm.proofs.Frame.{frame-length, laid-frame}
+use Rattle.tm.proofs.put_frame.Statement.{statement}
+use Rattle.tm.proofs.put_frame.Tie as tie
+
+head-requires : tie.Need-head-requires
+head-requires c κs = search needs
+
+add-next : tie.Need-add-next
+add-next c = search needs
+
+slice-aggregate-put : tie.Need-slice-aggregate-put
+slice-aggregate-put c = search needs
+
+put-requires : tie.Need-put-requires
+put-requires c κs = search needs
+
+put-requires-2 : tie.Need-put-requires-2
+put-requires-2 c κs = search needs
+
+add-result : tie.Need-add-result
+add-result c = search needs
+
+same-length : tie.Need-same-length
+same-length c = search needs
+
+returns : tie.Need-returns
+returns c =
+    let t = c .before .before .before .before .before .before .before .before .before .before .before .before in
+    let s = t .args in
+    let p = c .before .before .before .before .before .before in
+    let six : length (s .stamp .time) ≡ 6 = field-length (s .stamp .time) 6 (t .good .1 .1 .0 .1 .1 .1 .1 .0 .1 .0 .1) in (
+      ap (λ (n : ℕ). n + 16) (c .before .before .put2 .ensures .0)
+          ∙ add-comm (length (now (s .source))) 16
+          ∙ sym (frame-length (s .stamp) (now (s .source)) six),
+      c .before .before .put2 .ensures .1
+          ∙ ap (λ (d : List ℕ). laid d (s .at + 16) (now (s .source)))
+          (p .put .ensures .1 ∙ ap (λ (h : List ℕ). laid (now (s .out)) (s .at) h) (p .before .before .before .head .ensures))
+          ∙ laid-frame (now (s .out)) (s .at) (s .stamp) (now (s .source)) six,
+    )
+
+pub put-frame-spec : {M : Type 1} → statement M
+put-frame-spec =
+    tie.close
+    (tie.spec
+    head-requires
+    add-next
+    slice-aggregate-put
+    put-requires
+    put-requires-2
+    add-result
+    same-length
+    returns)

@@ -1,0 +1,156 @@
+// Telemetry packets of document 01: the frames that the terminal reports with.
+use octets::fields::PacketId;
+use octets::fields::Sequence;
+ghost use mathlib.Core.List.{_++_};
+ghost use mathlib.Core.Path.{_≡_};
+ghost use lib.ListN.{length};
+ghost use Rattle.octets.specs.Copy.{laid};
+ghost use Rattle.tm.specs.Frame.{categoryOf, headOf, frameOf};
+ghost use Rattle.tm.specs.Source.{echoed, failure, dumpHead, checkEntry};
+
+// What a frame carries before its source data: whose it is, the count of its category, the time, and what it reports.
+pub struct Stamp {
+    pub pid: u8,
+    pub count: u16,
+    pub time: [u8; 6],
+    pub kind: u8,
+    pub subtype: u8,
+}
+
+// The sixteen octets before the source data of a frame with so many octets of it.
+pub fn head(stamp: Stamp, octets: usize) -> [u8; 16]
+    ensures { λ r. ⌜ r ≡ headOf stamp octets ⌝ }
+{
+    let apid = octets::fields::join_apid(stamp.pid as u16, category(stamp.kind));
+    let id = octets::numbers::octets_of16(octets::fields::join_id(PacketId {
+        version: 0,
+        kind: 0,
+        header: 1,
+        apid,
+    }));
+    let control = octets::numbers::octets_of16(octets::fields::join_sequence(Sequence {
+        flags: 3,
+        count: stamp.count,
+    }));
+    // Reduced first: to the largest count nothing can be added.
+    let length = octets::numbers::octets_of16(((octets % 65536 + 16 - 7) % 65536) as u16);
+    let time = stamp.time;
+    [
+        id[0],
+        id[1],
+        control[0],
+        control[1],
+        length[0],
+        length[1],
+        time[0],
+        time[1],
+        time[2],
+        time[3],
+        time[4],
+        time[5],
+        0,
+        stamp.kind,
+        stamp.subtype,
+        0,
+    ]
+}
+
+// The category of a service's reports.
+fn category(kind: u8) -> u16
+    ensures { λ r. ⌜ r ≡ categoryOf kind ⌝ }
+{
+    if kind == 1 { 1 } else { 9 }
+}
+
+// Lays a frame into a buffer from a place on and answers how many octets it has; those that would stand past the buffer's end are dropped.
+pub fn put_frame(out: &mut [u8], at: u16, stamp: Stamp, source: &[u8]) -> usize
+    ensures { λ r. ⌜ (r ≡ length (frameOf stamp (now (source .entry)))) × (now (out .exit) ≡ laid (now (out .entry)) at (frameOf stamp (now (source .entry)))) ⌝ }
+{
+    let first = head(stamp, source.len());
+    let place = at as usize;
+    let next = place + 16;
+    octets::copy::put(out, place, &first);
+    octets::copy::put(out, next, source) + 16
+}
+
+// Lays a dump report, (6,6), of a block's stored octets.
+pub fn put_dump(
+    out: &mut [u8],
+    at: u16,
+    stamp: Stamp,
+    memory: u8,
+    start: u32,
+    words: u16,
+    stored: &[u8],
+) -> usize
+    ensures { λ r. ⌜ (r ≡ length (frameOf stamp (dumpHead memory start words ++ now (stored .entry)))) × (now (out .exit) ≡ laid (now (out .entry)) at (frameOf stamp (dumpHead memory start words ++ now (stored .entry)))) ⌝ }
+{
+    let first = head(stamp, stored.len() + 8);
+    let block = dump_head(memory, start, words);
+    let place = at as usize;
+    octets::copy::put(out, place, &first);
+    octets::copy::put(out, place + 16, &block);
+    octets::copy::put(out, place + 24, stored) + 24
+}
+
+// What stands before the words of a dump report.
+fn dump_head(memory: u8, start: u32, words: u16) -> [u8; 8]
+    ensures { λ r. ⌜ r ≡ dumpHead memory start words ⌝ }
+{
+    let s = octets::numbers::octets_of32(start);
+    let w = octets::numbers::octets_of16(words);
+    [memory, 1, s[0], s[1], s[2], s[3], w[0], w[1]]
+}
+
+// Lays a report that repeats a TC's first four octets and no more: (1,1) and (1,7).
+pub fn put_echo(out: &mut [u8], at: u16, stamp: Stamp, echo: [u8; 4]) -> usize
+    ensures { λ r. ⌜ (r ≡ length (frameOf stamp echo)) × (now (out .exit) ≡ laid (now (out .entry)) at (frameOf stamp echo)) ⌝ }
+{
+    put_frame(out, at, stamp, &echo)
+}
+
+// Lays a refusal, (1,2).
+pub fn put_failure(
+    out: &mut [u8],
+    at: u16,
+    stamp: Stamp,
+    echo: [u8; 4],
+    code: u16,
+    detail: u16,
+) -> usize
+    ensures { λ r. ⌜ (r ≡ length (frameOf stamp (echo ++ failure code detail))) × (now (out .exit) ≡ laid (now (out .entry)) at (frameOf stamp (echo ++ failure code detail))) ⌝ }
+{
+    let source = refusal(echo, code, detail);
+    put_frame(out, at, stamp, &source)
+}
+
+// The source data of a refusal.
+fn refusal(echo: [u8; 4], code: u16, detail: u16) -> [u8; 8]
+    ensures { λ r. ⌜ r ≡ echo ++ failure code detail ⌝ }
+{
+    let c = octets::numbers::octets_of16(code);
+    let d = octets::numbers::octets_of16(detail);
+    [echo[0], echo[1], echo[2], echo[3], c[0], c[1], d[0], d[1]]
+}
+
+// What a check report, (6,10), says of a block.
+pub fn check_entry(start: u32, words: u16, crc: u16) -> [u8; 8]
+    ensures { λ r. ⌜ r ≡ checkEntry start words crc ⌝ }
+{
+    let s = octets::numbers::octets_of32(start);
+    let w = octets::numbers::octets_of16(words);
+    let c = octets::numbers::octets_of16(crc);
+    [s[0], s[1], s[2], s[3], w[0], w[1], c[0], c[1]]
+}
+
+// A packet's first four octets; past its end they count as 0.
+pub fn echo_of(packet: &[u8]) -> [u8; 4]
+    ensures { λ r. ⌜ r ≡ echoed (now (packet .entry)) ⌝ }
+{
+    [
+        octets::numbers::octet_at(packet, 0) as u8,
+        octets::numbers::octet_at(packet, 1) as u8,
+        octets::numbers::octet_at(packet, 2) as u8,
+        octets::numbers::octet_at(packet, 3) as u8,
+    ]
+}
