@@ -1,0 +1,7 @@
+pub mod Request
+pub mod Table
+pub mod Reports
+pub mod Outcome
+pub mod Run
+pub mod Act
+pub mod Examples
