@@ -1,0 +1,14 @@
+pub mod Answers
+pub mod Computing
+pub mod Demand1
+pub mod Demand2
+pub mod Demand3
+pub mod Determined
+pub mod Numbered
+pub mod Numbers
+pub mod Packets
+pub mod Parting
+pub mod Refusals
+pub mod Rows
+pub mod StandIns
+pub mod Widened
