@@ -1,10 +1,10 @@
 -- The inspector's second demand: "Reports, counters and memory after each packet are exactly those of the rules in document 01 [..]. A packet written from valid fields reads back as those fields. A packet that reads cleanly, with the ordinary category, checksum flag and pad, is written back as the same octets." (After a refused packet: demand 1.)
 -- Assumes nothing.
 use mathlib.Core.Path.{_≡_}
-use mathlib.Core.Bool.{true}
+use mathlib.Core.Bool.{true, false}
 use mathlib.Core.List.{List, _++_}
 use Prim.Native.Nat.{ℕ, _≤_, _%_}
-use lib.ListN.{length}
+use lib.ListN.{length, drop}
 use Rattle.octets.specs.Copy.{laid}
 use Rattle.checks.specs.declared.Verdict.the-variants.{Accepted}
 use Rattle.checks.specs.Verdict.{isAccepted}
@@ -16,7 +16,8 @@ use Rattle.tc.proofs.RoundTrip.{Octets, orderOf, written-reads, read-writes}
 use Rattle.terminal.specs.Request.{areaNamed}
 use Rattle.terminal.specs.Table.{requestIn}
 use Rattle.terminal.specs.Reports.{Report, stateAfter, framesOf, echo, serviceReports, asked, asksAcceptance, asksCompletion}
-use Rattle.terminal.specs.Outcome.{Input, reportsFor, acceptedReports, reportsDue, served, storeAfter, verdictOn, reportsOn, octetsDue, outcomeOf, outAfter, storeOn}
+use Rattle.demands.proofs.Laws.{due-bounded, out-front}
+use Rattle.terminal.specs.Outcome.{silent, Input, reportsFor, acceptedReports, reportsDue, served, storeAfter, verdictOn, reportsOn, octetsDue, outcomeOf, outAfter, storeOn}
 
 -- The reports due for an accepted packet, in order: (1,1) if asked, the service's, (1,7) if asked.
 abbrev pub due : Input → List Report
@@ -48,6 +49,17 @@ unfolding octetsDue outcomeOf outAfter storeOn storeAfter
 accepted-serves i h =
     let e = accepted-reports i h in
     record { octets = rw e; written = rw e; counts = rw e; store = rw h; buffer = rw e }
+
+-- The octets written are never more than 4,072.
+pub never-more : (i : Input) → length (i .time) ≡ 6 → outcomeOf i .written ≤ 4072
+unfolding outcomeOf
+never-more i six = due-bounded i six
+
+-- They fill the front of the output buffer, and octets beyond keep their value.
+pub fills-front : (i : Input) → length (i .time) ≡ 6 → silent (verdictOn i) ≡ false
+    → outAfter i ≡ octetsDue i ++ drop (outcomeOf i .written) (i .out)
+unfolding outcomeOf
+fills-front i six heard = out-front i six heard
 
 -- A packet written from valid fields reads back as those fields and that data.
 pub written-reads-back : (o : Order) (application : List ℕ) → fieldsRight o ≡ true → length application ≤ 236

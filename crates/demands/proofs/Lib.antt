@@ -4,6 +4,8 @@ pub mod Demand1
 pub mod Demand2
 pub mod Demand3
 pub mod Determined
+pub mod Largest
+pub mod Laws
 pub mod Numbered
 pub mod Numbers
 pub mod Packets
