@@ -1,0 +1,110 @@
+// The text printed: characters gather in a buffer, which goes to standard output when it is full and before each read.
+use crate::digits;
+use libc::STDOUT_FILENO;
+ghost use Prim.Native.Nat.{_≤_};
+
+// How much text waits in the buffer, and whether standard output still takes any.
+pub struct Text {
+    pub at: usize,
+    pub open: bool,
+}
+
+// Writes out what waits.
+pub fn flush(t: Text, buffer: &[u8]) -> Text {
+    let open = write(t.open, octets::copy::part(buffer, 0, t.at));
+    Text { at: 0, open }
+}
+
+// Writes octets to standard output, unless it failed before.
+fn write(open: bool, octets: &[u8]) -> bool {
+    if !open {
+        return false;
+    }
+    io::write_all(STDOUT_FILENO, octets)
+}
+
+// Adds a character.
+pub fn put(t: Text, buffer: &mut [u8], c: u8) -> Text {
+    let at = t.at;
+    if at < buffer.len() {
+        buffer[at] = c;
+        return Text {
+            at: at + 1,
+            open: t.open,
+        };
+    }
+    let open = write(t.open, buffer);
+    put_first(open, buffer, c)
+}
+
+// Adds a character to an empty buffer.
+fn put_first(open: bool, buffer: &mut [u8], c: u8) -> Text {
+    if buffer.len() == 0 {
+        return Text { at: 0, open: false };
+    }
+    buffer[0] = c;
+    Text { at: 1, open }
+}
+
+// Adds the newline.
+pub fn end_line(t: Text, buffer: &mut [u8]) -> Text {
+    put(t, buffer, b'\n')
+}
+
+// Adds a space.
+pub fn space(t: Text, buffer: &mut [u8]) -> Text {
+    put(t, buffer, b' ')
+}
+
+// Adds an octet: its two digits.
+pub fn octet(t: Text, buffer: &mut [u8], x: u8) -> Text {
+    let first = put(t, buffer, digits::digit(x / 16));
+    put(first, buffer, digits::digit(x % 16))
+}
+
+// Adds a number of 16 bits: its four digits.
+pub fn number(t: Text, buffer: &mut [u8], x: u16) -> Text {
+    let first = octet(t, buffer, (x / 256) as u8);
+    octet(first, buffer, (x % 256) as u8)
+}
+
+// Adds some octets.
+pub fn octets(t: Text, buffer: &mut [u8], all: &[u8]) -> Text {
+    let mut next = t;
+    let mut i = 0;
+    while i < all.len() {
+        next = octet(next, buffer, all[i]);
+        i += 1;
+    }
+    next
+}
+
+// Adds a space and a number of 16 bits.
+pub fn next_number(t: Text, buffer: &mut [u8], x: u16) -> Text {
+    let first = space(t, buffer);
+    number(first, buffer, x)
+}
+
+// Adds a space and an octet.
+pub fn next_octet(t: Text, buffer: &mut [u8], x: u8) -> Text {
+    let first = space(t, buffer);
+    octet(first, buffer, x)
+}
+
+// Adds a space, some octets, and the newline.
+pub fn last_octets(t: Text, buffer: &mut [u8], all: &[u8]) -> Text {
+    let first = space(t, buffer);
+    line_of(first, buffer, all)
+}
+
+// Adds some octets and the newline.
+pub fn line_of(t: Text, buffer: &mut [u8], all: &[u8]) -> Text {
+    let first = octets(t, buffer, all);
+    end_line(first, buffer)
+}
+
+// Adds the line that answers a bad line.
+pub fn bad_line(t: Text, buffer: &mut [u8]) -> Text {
+    let first = number(t, buffer, 0x0200);
+    end_line(first, buffer)
+}
