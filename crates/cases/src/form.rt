@@ -1,7 +1,32 @@
 // Which octets each command takes.
+use crate::line;
+use crate::line::Line;
+
+// The letter of a line that is a command with the octets that it takes, and 0 for any other line.
+pub fn command(l: Line, given: &[u8]) -> u8 {
+    if !line::is_whole(l) {
+        return 0;
+    }
+    if l.seen == 1 {
+        return alone(l.letter);
+    }
+    if !is_right(l.letter, given) {
+        return 0;
+    }
+    l.letter
+}
+
+// The letter of a command that takes no octets, and 0 for any other.
+fn alone(letter: u8) -> u8 {
+    match letter {
+        b'O' => letter,
+        b'M' => letter,
+        _ => 0,
+    }
+}
 
 // Whether a letter is a command that takes octets, and takes these.
-pub fn is_right(letter: u8, given: &[u8]) -> bool {
+fn is_right(letter: u8, given: &[u8]) -> bool {
     let n = given.len();
     match letter {
         b'P' => is_profile(given),

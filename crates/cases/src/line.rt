@@ -1,5 +1,4 @@
 // A line as its characters come in: a letter, a space, and digits that are decoded at once, two to an octet.
-use crate::digits;
 ghost use mathlib.Core.Path.{_≡_};
 ghost use Prim.Native.Nat.{_+_, _≤_};
 ghost use lib.ListN.{length};
@@ -16,6 +15,9 @@ pub struct Line {
     pub bad: bool,
 }
 
+// What holds the octets of a line.
+pub type Octets = [u8; 70000];
+
 // A line of which nothing came yet.
 pub fn start() -> Line
     ensures { λ r. ⌜ r .seen ≡ 0 ⌝ }
@@ -29,7 +31,7 @@ pub fn start() -> Line
 }
 
 // The line with some characters more; the octets of its digits are laid into `octets`.
-pub fn fill(line: Line, characters: &[u8], octets: &mut [u8]) -> Line {
+pub fn fill(line: Line, characters: &[u8], octets: &mut Octets) -> Line {
     let mut l = line;
     let mut i = 0;
     while i < characters.len() {
@@ -40,7 +42,7 @@ pub fn fill(line: Line, characters: &[u8], octets: &mut [u8]) -> Line {
 }
 
 // The line with one character more.
-fn take(line: Line, c: u8, octets: &mut [u8]) -> Line {
+fn take(line: Line, c: u8, octets: &mut Octets) -> Line {
     let seen = line.seen;
     if seen == 0 {
         return Line {
@@ -58,7 +60,7 @@ fn take(line: Line, c: u8, octets: &mut [u8]) -> Line {
             bad: c != b' ',
         };
     }
-    let v = digits::value(c);
+    let v = characters::value(c);
     if 15 < v {
         return spoilt(line);
     }
@@ -74,7 +76,7 @@ fn take(line: Line, c: u8, octets: &mut [u8]) -> Line {
 }
 
 // Lays an octet at a place, if there is one.
-fn lay(octets: &mut [u8], at: usize, octet: u8) {
+fn lay(octets: &mut Octets, at: usize, octet: u8) {
     if at < octets.len() {
         octets[at] = octet;
     }

@@ -1,10 +1,12 @@
 // The program `cases`: the terminal, the reader, the writer and the CRC over lines of text, one command a line.
+use crate::line::Octets;
+use crate::session::Out;
 use crate::session::Session;
+use crate::session::Store;
+use crate::text::Buffer;
+use libc::STDERR_FILENO;
 use libc::STDIN_FILENO;
-ghost use Prim.Native.Nat.{_≤_};
-ghost use lib.ListN.{length};
 
-mod digits;
 mod form;
 mod line;
 mod serve;
@@ -12,36 +14,30 @@ mod session;
 mod show;
 mod text;
 
+// What one read fills.
+type Input = [u8; 65536];
+
 fn main() {
     let mut input = [0u8; 65536];
     let mut octets = [0u8; 70000];
     let mut store = [0u8; 65600];
     let mut out = [0u8; 8192];
-    let mut packet = [0u8; 65536];
     let mut buffer = [0u8; 65536];
-    run(
-        &mut input,
-        &mut octets,
-        &mut store,
-        &mut out,
-        &mut packet,
-        &mut buffer,
-    );
+    run(&mut input, &mut octets, &mut store, &mut out, &mut buffer);
 }
 
 // Serves the input to its end. A proved loop has to end, and nothing says that an input does: the turns are counted down from a number that no run uses up.
 fn run(
-    input: &mut [u8],
-    octets: &mut [u8],
-    store: &mut [u8],
-    out: &mut [u8],
-    packet: &mut [u8],
-    buffer: &mut [u8],
+    input: &mut Input,
+    octets: &mut Octets,
+    store: &mut Store,
+    out: &mut Out,
+    buffer: &mut Buffer,
 ) {
     let mut s = session::start();
     let mut turns = u64::MAX;
     while turns > 0 {
-        s = turn(s, input, octets, store, out, packet, buffer);
+        s = turn(s, input, octets, store, out, buffer);
         let t = s.text;
         if !t.open {
             return;
@@ -53,12 +49,11 @@ fn run(
 // Writes out the text that waits, reads once, and serves what came.
 fn turn(
     s: Session,
-    input: &mut [u8],
-    octets: &mut [u8],
-    store: &mut [u8],
-    out: &mut [u8],
-    packet: &mut [u8],
-    buffer: &mut [u8],
+    input: &mut Input,
+    octets: &mut Octets,
+    store: &mut Store,
+    out: &mut Out,
+    buffer: &mut Buffer,
 ) -> Session {
     let t = text::flush(s.text, buffer);
     let next = session::with_text(s, t);
@@ -67,7 +62,7 @@ fn turn(
     }
     let n = read(input);
     if n == 0 {
-        return end(next, octets, store, out, packet, buffer);
+        return end(next, octets, store, out, buffer);
     }
     feed(
         next,
@@ -75,35 +70,41 @@ fn turn(
         octets,
         store,
         out,
-        packet,
         buffer,
     )
 }
 
 // How many octets one read put at the front of a buffer: 0 at the input's end, and where the read failed.
-fn read(input: &mut [u8]) -> usize {
+fn read(input: &mut Input) -> usize {
     let got = libc::read(STDIN_FILENO, input);
+    say_if_failed(got);
     io::count(got, input)
+}
+
+// A read that fails is said, and taken for the end of the input.
+fn say_if_failed(got: isize) {
+    if got < 0 {
+        io::write_all(STDERR_FILENO, b"cases: standard input cannot be read\n");
+    }
 }
 
 // Serves what came of a last line without its newline, and writes out the text that waits; no turn follows.
 fn end(
     s: Session,
-    octets: &[u8],
-    store: &mut [u8],
-    out: &mut [u8],
-    packet: &mut [u8],
-    buffer: &mut [u8],
+    octets: &Octets,
+    store: &mut Store,
+    out: &mut Out,
+    buffer: &mut Buffer,
 ) -> Session {
     let l = s.line;
     if l.seen == 0 {
         return close(s, buffer);
     }
-    close(serve::serve(s, octets, store, out, packet, buffer), buffer)
+    close(serve::serve(s, octets, store, out, buffer), buffer)
 }
 
 // The session with its text written out and closed.
-fn close(s: Session, buffer: &[u8]) -> Session {
+fn close(s: Session, buffer: &Buffer) -> Session {
     let mut t = text::flush(s.text, buffer);
     t.open = false;
     session::with_text(s, t)
@@ -113,11 +114,10 @@ fn close(s: Session, buffer: &[u8]) -> Session {
 fn feed(
     s: Session,
     input: &[u8],
-    octets: &mut [u8],
-    store: &mut [u8],
-    out: &mut [u8],
-    packet: &mut [u8],
-    buffer: &mut [u8],
+    octets: &mut Octets,
+    store: &mut Store,
+    out: &mut Out,
+    buffer: &mut Buffer,
 ) -> Session {
     let mut next = s;
     let mut at: usize = 0;
@@ -126,8 +126,8 @@ fn feed(
         if !t.open {
             return next;
         }
-        let end = line_end(input, at);
-        next = go_on(next, input, at, end, octets, store, out, packet, buffer);
+        let end = characters::line_end(input, at);
+        next = go_on(next, input, at, end, octets, store, out, buffer);
         at = end + 1;
     }
     next
@@ -139,31 +139,15 @@ fn go_on(
     input: &[u8],
     at: usize,
     end: usize,
-    octets: &mut [u8],
-    store: &mut [u8],
-    out: &mut [u8],
-    packet: &mut [u8],
-    buffer: &mut [u8],
+    octets: &mut Octets,
+    store: &mut Store,
+    out: &mut Out,
+    buffer: &mut Buffer,
 ) -> Session {
     let l = line::fill(s.line, octets::copy::part(input, at, end), octets);
     let next = session::with_line(s, l);
     if end < input.len() {
-        return serve::serve(next, octets, store, out, packet, buffer);
+        return serve::serve(next, octets, store, out, buffer);
     }
     next
-}
-
-// Where the newline stands that ends the line at a place, or the end of the octets.
-fn line_end(input: &[u8], at: usize) -> usize
-    requires { ⌜ at ≤ length (now input) ⌝ }
-    ensures { λ r. ⌜ (at ≤ r) × (r ≤ length (now (input .entry))) ⌝ }
-{
-    let mut i = at;
-    while i < input.len() {
-        if input[i] == b'\n' {
-            return i;
-        }
-        i += 1;
-    }
-    i
 }

@@ -2,58 +2,61 @@
 use crate::form;
 use crate::line;
 use crate::session;
+use crate::session::Out;
 use crate::session::Session;
+use crate::session::Store;
 use crate::show;
 use crate::text;
+use crate::text::Buffer;
 
 // Does what the line says, or answers that it is bad, and begins the next.
 pub fn serve(
     s: Session,
-    octets: &[u8],
-    store: &mut [u8],
-    out: &mut [u8],
-    packet: &mut [u8],
-    buffer: &mut [u8],
+    octets: &line::Octets,
+    store: &mut Store,
+    out: &mut Out,
+    buffer: &mut Buffer,
 ) -> Session {
     let l = s.line;
     let next = session::with_line(s, line::start());
-    if !line::is_whole(l) {
-        return refuse(next, buffer);
-    }
-    if l.seen == 1 {
-        return show_state(next, l.letter, store, out, buffer);
-    }
     let given = line::octets_of(l, octets);
-    if !form::is_right(l.letter, given) {
-        return refuse(next, buffer);
-    }
-    act(next, l.letter, given, store, out, packet, buffer)
+    act(next, form::command(l, given), given, store, out, buffer)
 }
 
 // A bad line changes nothing.
-fn refuse(s: Session, buffer: &mut [u8]) -> Session {
+fn refuse(s: Session, buffer: &mut Buffer) -> Session {
     let t = text::bad_line(s.text, buffer);
     session::with_text(s, t)
 }
 
-// The commands that take no octets.
-fn show_state(s: Session, letter: u8, store: &[u8], out: &[u8], buffer: &mut [u8]) -> Session {
-    match letter {
-        b'O' => show::front(s, out, s.room, buffer),
-        b'M' => show::front(s, store, s.stored, buffer),
-        _ => refuse(s, buffer),
-    }
-}
-
-// The commands that take octets, given those that they take.
+// Each command, given the octets that it takes: those that print, and then those that set.
 fn act(
     s: Session,
     letter: u8,
     given: &[u8],
-    store: &mut [u8],
-    out: &mut [u8],
-    packet: &mut [u8],
-    buffer: &mut [u8],
+    store: &mut Store,
+    out: &mut Out,
+    buffer: &mut Buffer,
+) -> Session {
+    match letter {
+        b'X' => show::answer(s, given, store, out, buffer),
+        b'O' => show::front(s, out, s.room, buffer),
+        b'M' => show::front(s, store, s.stored, buffer),
+        b'R' => show::read(s, given, buffer),
+        b'W' => show::write(s, given, buffer),
+        b'C' => show::control(s, given, buffer),
+        _ => set(s, letter, given, store, out, buffer),
+    }
+}
+
+// The commands that set what stays from line to line; any other letter is that of a bad line.
+fn set(
+    s: Session,
+    letter: u8,
+    given: &[u8],
+    store: &mut Store,
+    out: &mut Out,
+    buffer: &mut Buffer,
 ) -> Session {
     match letter {
         b'P' => session::set_profile(s, given),
@@ -61,10 +64,6 @@ fn act(
         b'K' => session::set_counts(s, given),
         b'T' => session::set_time(s, given),
         b'B' => session::set_buffer(s, given, out),
-        b'X' => show::answer(s, given, store, out, buffer),
-        b'R' => show::read(s, given, buffer),
-        b'W' => show::write(s, given, packet, buffer),
-        b'C' => show::control(s, given, buffer),
         _ => refuse(s, buffer),
     }
 }

@@ -1,9 +1,9 @@
 // What stays from line to line, and the commands that set it: P, S, K, T and B.
 use crate::line::Line;
 use crate::text::Text;
+use decide::State;
 use map::Area;
 use map::Profile;
-use terminal::State;
 
 // The terminal's profile, counts and time, the lengths of its store and output buffer, the line that comes in, and the text that goes out.
 pub struct Session {
@@ -15,6 +15,12 @@ pub struct Session {
     pub line: Line,
     pub text: Text,
 }
+
+// What holds the store.
+pub type Store = [u8; 65600];
+
+// What holds the output buffer.
+pub type Out = [u8; 8192];
 
 // The start: the line program's profile, 128 octets of store, an output buffer of 4,096.
 pub fn start() -> Session {
@@ -140,7 +146,7 @@ fn area_of(octets: &[u8]) -> Area {
 }
 
 // S: the store.
-pub fn set_store(s: Session, given: &[u8], store: &mut [u8]) -> Session {
+pub fn set_store(s: Session, given: &[u8], store: &mut Store) -> Session {
     let mut next = s;
     next.stored = octets::copy::put(store, 0, given);
     next
@@ -171,7 +177,7 @@ pub fn set_time(s: Session, given: &[u8]) -> Session {
 }
 
 // B: the output buffer's length, and the octet that fills it.
-pub fn set_buffer(s: Session, given: &[u8], out: &mut [u8]) -> Session {
+pub fn set_buffer(s: Session, given: &[u8], out: &mut Out) -> Session {
     let length = octets::numbers::word16_at(given, 0) as usize;
     fill(out, length, one(given, 2));
     let mut next = s;
@@ -180,7 +186,7 @@ pub fn set_buffer(s: Session, given: &[u8], out: &mut [u8]) -> Session {
 }
 
 // Puts one octet at each of the first places of a buffer, as far as it goes.
-pub fn fill(buffer: &mut [u8], count: usize, octet: u8) {
+fn fill(buffer: &mut [u8], count: usize, octet: u8) {
     let mut i = 0;
     while i < buffer.len() {
         if count <= i {

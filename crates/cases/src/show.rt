@@ -1,44 +1,37 @@
 // The commands that print: X, O, M, R, W and C.
 use crate::session;
+use crate::session::Out;
 use crate::session::Session;
+use crate::session::Store;
 use crate::text;
+use crate::text::Buffer;
 use crate::text::Text;
 use checks::Verdict;
+use decide::State;
 use tc::Fields;
 use tc::Order;
 use tc::Written;
 use terminal::Outcome;
-use terminal::State;
+ghost use Prim.Native.Nat.{_≤_};
 
 // X: the terminal answers a packet.
 pub fn answer(
     s: Session,
     packet: &[u8],
-    store: &mut [u8],
-    out: &mut [u8],
-    buffer: &mut [u8],
+    store: &mut Store,
+    out: &mut Out,
+    buffer: &mut Buffer,
 ) -> Session {
     let outcome = answered(s, packet, store, out);
-    after(s, outcome, out, buffer)
-}
-
-// The session after an answer, which is printed.
-fn after(s: Session, outcome: Outcome, out: &[u8], buffer: &mut [u8]) -> Session {
     let t = show_outcome(s.text, outcome, out, buffer);
     session::with_text(session::with_state(s, outcome.state), t)
 }
 
 // The terminal's answer, over the store and the output buffer as long as they are now.
 fn answered(s: Session, packet: &[u8], store: &mut [u8], out: &mut [u8]) -> Outcome {
-    let stored = s.stored;
-    let room = s.room;
+    let stored = smaller(s.stored, store.len());
+    let room = smaller(s.room, out.len());
     let time = s.time;
-    if store.len() < stored {
-        return terminal::answer(s.profile, s.state, time, packet, store, out);
-    }
-    if out.len() < room {
-        return terminal::answer(s.profile, s.state, time, packet, store, out);
-    }
     terminal::answer(
         s.profile,
         s.state,
@@ -49,8 +42,15 @@ fn answered(s: Session, packet: &[u8], store: &mut [u8], out: &mut [u8]) -> Outc
     )
 }
 
+// The smaller of two lengths.
+fn smaller(a: usize, b: usize) -> usize
+    ensures { λ r. ⌜ r ≤ b ⌝ }
+{
+    if a < b { a } else { b }
+}
+
 // The octets written, and then the verdict, its detail, how many octets they are, and both counts.
-fn show_outcome(t: Text, outcome: Outcome, out: &[u8], buffer: &mut [u8]) -> Text {
+fn show_outcome(t: Text, outcome: Outcome, out: &[u8], buffer: &mut Buffer) -> Text {
     let written = outcome.written;
     let state = outcome.state;
     let v = outcome.verdict;
@@ -60,21 +60,21 @@ fn show_outcome(t: Text, outcome: Outcome, out: &[u8], buffer: &mut [u8]) -> Tex
 }
 
 // How many octets were written, and both counts.
-fn show_counts(t: Text, written: usize, state: State, buffer: &mut [u8]) -> Text {
+fn show_counts(t: Text, written: usize, state: State, buffer: &mut Buffer) -> Text {
     let count = text::next_number(t, buffer, (written % 65536) as u16);
     let reports = text::next_number(count, buffer, state.reports);
     let services = text::next_number(reports, buffer, state.services);
-    text::end_line(services, buffer)
+    text::put(services, buffer, b'\n')
 }
 
 // A verdict and its detail.
-fn show_verdict(t: Text, v: Verdict, buffer: &mut [u8]) -> Text {
+fn show_verdict(t: Text, v: Verdict, buffer: &mut Buffer) -> Text {
     let first = show_code(t, checks::accepted(v), checks::number(v), buffer);
     text::next_number(first, buffer, checks::detail(v))
 }
 
 // 0000 for acceptance, else 01 and the number.
-fn show_code(t: Text, accepted: bool, number: u16, buffer: &mut [u8]) -> Text {
+fn show_code(t: Text, accepted: bool, number: u16, buffer: &mut Buffer) -> Text {
     if accepted {
         return text::number(t, buffer, 0);
     }
@@ -83,13 +83,13 @@ fn show_code(t: Text, accepted: bool, number: u16, buffer: &mut [u8]) -> Text {
 }
 
 // O and M: the front of the output buffer or the store.
-pub fn front(s: Session, octets: &[u8], length: usize, buffer: &mut [u8]) -> Session {
+pub fn front(s: Session, octets: &[u8], length: usize, buffer: &mut Buffer) -> Session {
     let t = text::line_of(s.text, buffer, octets::copy::part(octets, 0, length));
     session::with_text(s, t)
 }
 
 // R: the reader reads a packet.
-pub fn read(s: Session, packet: &[u8], buffer: &mut [u8]) -> Session {
+pub fn read(s: Session, packet: &[u8], buffer: &mut Buffer) -> Session {
     let reading = tc::reader::read(packet);
     let v = reading.verdict;
     let verdict = show_verdict(s.text, v, buffer);
@@ -99,7 +99,7 @@ pub fn read(s: Session, packet: &[u8], buffer: &mut [u8]) -> Session {
 }
 
 // The fields that the reader hands back.
-fn show_fields(t: Text, f: Fields, buffer: &mut [u8]) -> Text {
+fn show_fields(t: Text, f: Fields, buffer: &mut Buffer) -> Text {
     let apid = text::next_number(t, buffer, f.apid);
     let count = text::next_number(apid, buffer, f.count);
     let checksum = text::next_octet(count, buffer, f.checksum);
@@ -107,7 +107,7 @@ fn show_fields(t: Text, f: Fields, buffer: &mut [u8]) -> Text {
 }
 
 // Those of the data field header, after the checksum flag.
-fn show_header(t: Text, f: Fields, buffer: &mut [u8]) -> Text {
+fn show_header(t: Text, f: Fields, buffer: &mut Buffer) -> Text {
     let ack = text::next_octet(t, buffer, f.ack);
     let kind = text::next_octet(ack, buffer, f.kind);
     let subtype = text::next_octet(kind, buffer, f.subtype);
@@ -115,34 +115,25 @@ fn show_header(t: Text, f: Fields, buffer: &mut [u8]) -> Text {
 }
 
 // W: the writer writes a packet into a buffer of the length asked for, each octet EE before.
-pub fn write(s: Session, given: &[u8], packet: &mut [u8], buffer: &mut [u8]) -> Session {
+pub fn write(s: Session, given: &[u8], buffer: &mut Buffer) -> Session {
+    let mut packet = [0xEEu8; 65536];
     let room = octets::numbers::word16_at(given, 6) as usize;
-    let written = written_into(given, packet, room);
-    show_packet(s, written, octets::copy::part(packet, 0, room), buffer)
+    let written = written_into(given, &mut packet, room);
+    show_packet(s, written, octets::copy::part(&packet, 0, room), buffer)
 }
 
-// The writer's answer, over the first octets of a buffer.
+// The writer's answer to the order at the front of some octets, over the first octets of a buffer.
 fn written_into(given: &[u8], packet: &mut [u8], room: usize) -> Written {
-    session::fill(packet, room, 0xEE);
-    write_order(
-        given,
+    let length = smaller(room, packet.len());
+    tc::writer::write(
+        order_in(given),
         octets::copy::part(given, 8, given.len()),
-        packet,
-        room,
+        &mut packet[..length],
     )
 }
 
-// The writer's answer to the order at the front of some octets.
-fn write_order(given: &[u8], application: &[u8], packet: &mut [u8], room: usize) -> Written {
-    let order = order_in(given);
-    if packet.len() < room {
-        return tc::writer::write(order, application, packet);
-    }
-    tc::writer::write(order, application, &mut packet[..room])
-}
-
 // The writer's answer, and the buffer.
-fn show_packet(s: Session, written: Written, packet: &[u8], buffer: &mut [u8]) -> Session {
+fn show_packet(s: Session, written: Written, packet: &[u8], buffer: &mut Buffer) -> Session {
     let code = show_written(s.text, written, buffer);
     let t = text::last_octets(code, buffer, packet);
     session::with_text(s, t)
@@ -160,7 +151,7 @@ fn order_in(given: &[u8]) -> Order {
 }
 
 // The writer's answer and the packet's length, 0 where it refused.
-fn show_written(t: Text, written: Written, buffer: &mut [u8]) -> Text {
+fn show_written(t: Text, written: Written, buffer: &mut Buffer) -> Text {
     match written {
         Written::Packet(length) => show_length(t, true, 0, length, buffer),
         Written::BadField => show_length(t, false, 50, 0, buffer),
@@ -170,14 +161,14 @@ fn show_written(t: Text, written: Written, buffer: &mut [u8]) -> Text {
 }
 
 // An answer's code and a length.
-fn show_length(t: Text, accepted: bool, number: u16, length: usize, buffer: &mut [u8]) -> Text {
+fn show_length(t: Text, accepted: bool, number: u16, length: usize, buffer: &mut Buffer) -> Text {
     let first = show_code(t, accepted, number, buffer);
     text::next_number(first, buffer, (length % 65536) as u16)
 }
 
 // C: the CRC of some octets.
-pub fn control(s: Session, given: &[u8], buffer: &mut [u8]) -> Session {
+pub fn control(s: Session, given: &[u8], buffer: &mut Buffer) -> Session {
     let first = text::number(s.text, buffer, crc::crc(given));
-    let t = text::end_line(first, buffer);
+    let t = text::put(first, buffer, b'\n');
     session::with_text(s, t)
 }

@@ -1,5 +1,4 @@
 // The text printed: characters gather in a buffer, which goes to standard output when it is full and before each read.
-use crate::digits;
 use libc::STDOUT_FILENO;
 ghost use Prim.Native.Nat.{_≤_};
 
@@ -9,8 +8,11 @@ pub struct Text {
     pub open: bool,
 }
 
+// What holds the text that waits.
+pub type Buffer = [u8; 65536];
+
 // Writes out what waits.
-pub fn flush(t: Text, buffer: &[u8]) -> Text {
+pub fn flush(t: Text, buffer: &Buffer) -> Text {
     let open = write(t.open, octets::copy::part(buffer, 0, t.at));
     Text { at: 0, open }
 }
@@ -24,7 +26,7 @@ fn write(open: bool, octets: &[u8]) -> bool {
 }
 
 // Adds a character.
-pub fn put(t: Text, buffer: &mut [u8], c: u8) -> Text {
+pub fn put(t: Text, buffer: &mut Buffer, c: u8) -> Text {
     let at = t.at;
     if at < buffer.len() {
         buffer[at] = c;
@@ -34,42 +36,24 @@ pub fn put(t: Text, buffer: &mut [u8], c: u8) -> Text {
         };
     }
     let open = write(t.open, buffer);
-    put_first(open, buffer, c)
-}
-
-// Adds a character to an empty buffer.
-fn put_first(open: bool, buffer: &mut [u8], c: u8) -> Text {
-    if buffer.len() == 0 {
-        return Text { at: 0, open: false };
-    }
     buffer[0] = c;
     Text { at: 1, open }
 }
 
-// Adds the newline.
-pub fn end_line(t: Text, buffer: &mut [u8]) -> Text {
-    put(t, buffer, b'\n')
-}
-
-// Adds a space.
-pub fn space(t: Text, buffer: &mut [u8]) -> Text {
-    put(t, buffer, b' ')
-}
-
 // Adds an octet: its two digits.
-pub fn octet(t: Text, buffer: &mut [u8], x: u8) -> Text {
-    let first = put(t, buffer, digits::digit(x / 16));
-    put(first, buffer, digits::digit(x % 16))
+pub fn octet(t: Text, buffer: &mut Buffer, x: u8) -> Text {
+    let first = put(t, buffer, characters::digit(x / 16));
+    put(first, buffer, characters::digit(x))
 }
 
 // Adds a number of 16 bits: its four digits.
-pub fn number(t: Text, buffer: &mut [u8], x: u16) -> Text {
+pub fn number(t: Text, buffer: &mut Buffer, x: u16) -> Text {
     let first = octet(t, buffer, (x / 256) as u8);
     octet(first, buffer, (x % 256) as u8)
 }
 
 // Adds some octets.
-pub fn octets(t: Text, buffer: &mut [u8], all: &[u8]) -> Text {
+pub fn octets(t: Text, buffer: &mut Buffer, all: &[u8]) -> Text {
     let mut next = t;
     let mut i = 0;
     while i < all.len() {
@@ -80,31 +64,31 @@ pub fn octets(t: Text, buffer: &mut [u8], all: &[u8]) -> Text {
 }
 
 // Adds a space and a number of 16 bits.
-pub fn next_number(t: Text, buffer: &mut [u8], x: u16) -> Text {
-    let first = space(t, buffer);
+pub fn next_number(t: Text, buffer: &mut Buffer, x: u16) -> Text {
+    let first = put(t, buffer, b' ');
     number(first, buffer, x)
 }
 
 // Adds a space and an octet.
-pub fn next_octet(t: Text, buffer: &mut [u8], x: u8) -> Text {
-    let first = space(t, buffer);
+pub fn next_octet(t: Text, buffer: &mut Buffer, x: u8) -> Text {
+    let first = put(t, buffer, b' ');
     octet(first, buffer, x)
 }
 
 // Adds a space, some octets, and the newline.
-pub fn last_octets(t: Text, buffer: &mut [u8], all: &[u8]) -> Text {
-    let first = space(t, buffer);
+pub fn last_octets(t: Text, buffer: &mut Buffer, all: &[u8]) -> Text {
+    let first = put(t, buffer, b' ');
     line_of(first, buffer, all)
 }
 
 // Adds some octets and the newline.
-pub fn line_of(t: Text, buffer: &mut [u8], all: &[u8]) -> Text {
+pub fn line_of(t: Text, buffer: &mut Buffer, all: &[u8]) -> Text {
     let first = octets(t, buffer, all);
-    end_line(first, buffer)
+    put(first, buffer, b'\n')
 }
 
 // Adds the line that answers a bad line.
-pub fn bad_line(t: Text, buffer: &mut [u8]) -> Text {
+pub fn bad_line(t: Text, buffer: &mut Buffer) -> Text {
     let first = number(t, buffer, 0x0200);
-    end_line(first, buffer)
+    put(first, buffer, b'\n')
 }

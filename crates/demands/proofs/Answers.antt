@@ -24,11 +24,11 @@ use Rattle.map.proofs.Widening.{wider-facts}
 use Rattle.blocks.specs.declared.Action.the-variants.{Load, Dump, Check}
 use Rattle.blocks.specs.declared.Block.{Block}
 use Rattle.blocks.specs.Blocks.{blocksOf, wordsOf}
-use Rattle.terminal.specs.declared.State.{State}
-use Rattle.terminal.specs.declared.Request.{Request}
-use Rattle.terminal.specs.declared.Request.the-variants.{Memory as Asks, Connection, Unknown}
-use Rattle.terminal.specs.Request.{areaNamed}
-use Rattle.terminal.specs.Table.{staysInside, callerRows, requestRows, requestIn, rows, decided}
+use Rattle.decide.specs.declared.State.{State}
+use Rattle.decide.specs.declared.Request.{Request}
+use Rattle.decide.specs.declared.Request.the-variants.{Memory as Asks, Connection, Unknown}
+use Rattle.decide.specs.Request.{areaNamed}
+use Rattle.decide.specs.Table.{staysInside, callerRows, requestRows, requestIn, rows, decided}
 use Rattle.terminal.specs.Outcome.{Input, reportsFor, acceptedReports, reportsDue, loaded, served, storeAfter, verdictOn, reportsOn, octetsDue, outcomeOf, outAfter, storeOn}
 use Rattle.terminal.specs.Run.{Step, answerTo, inputFor, placeOn}
 use Rattle.demands.proofs.Widened.{Alike, served-alike}

@@ -11,8 +11,8 @@ use Rattle.map.specs.Wider.{keepsRights, keepsWords, covers, covered, keepsServ
 use Rattle.blocks.specs.Blocks.{blockAt, blocksFrom, wordsOf}
 use Rattle.blocks.specs.Form.{blockRight, headRight, blockFault, endOf, exact, formOf, emptyForm}
 use Rattle.tm.specs.Frame.{frameOf, headOf as frameHead}
-use Rattle.terminal.specs.Request.{serves, requestOf, outsideOf}
-use Rattle.terminal.specs.Table.{callerRight, callerRows, requestRows, rows, decided}
+use Rattle.decide.specs.Request.{serves, requestOf, outsideOf}
+use Rattle.decide.specs.Table.{callerRight, callerRows, requestRows, rows, decided}
 use Rattle.terminal.specs.Reports.{counted, countFor, stateAfter, stamped, framesOf, storedAt, entriesOf}
 use Rattle.terminal.specs.Outcome.{reportsFor, acceptedReports, reportsDue, loaded, storeAfter, octetsDue, outcomeOf, outAfter, storeOn}
 

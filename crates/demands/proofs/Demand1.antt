@@ -15,10 +15,10 @@ use Rattle.checks.proofs.Table.{first-gives, all-give, answer-from}
 use Rattle.tm.specs.Frame.{frameOf}
 use Rattle.tm.specs.Source.{echoOf, failure}
 use Rattle.tc.specs.Reader.{readerRows}
-use Rattle.terminal.specs.Table.{callerRows, requestRows, rows, decided}
+use Rattle.decide.specs.Table.{callerRows, requestRows, rows, decided, silent}
 use Rattle.terminal.specs.Reports.{refusal}
 use Rattle.demands.proofs.Refusals.{silent-refuses, refused-store, no-octets, same-counts, same-buffer, one-frame, one-count, frame-octets, frame-first}
-use Rattle.terminal.specs.Outcome.{Input, silent, verdictOn, octetsDue, outcomeOf, outAfter, storeOn}
+use Rattle.terminal.specs.Outcome.{Input, verdictOn, octetsDue, outcomeOf, outAfter, storeOn}
 
 -- The table of all thirteen checks on an input.
 abbrev pub rowsOn : Input → List (Row Verdict)

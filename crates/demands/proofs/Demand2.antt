@@ -13,11 +13,12 @@ use Rattle.tc.specs.Layout.{fieldsOf, applicationOf, packetOf}
 use Rattle.tc.specs.Reader.{readingOf, dataFor}
 use Rattle.tc.specs.Writer.{fieldsFor, fieldsRight}
 use Rattle.tc.proofs.RoundTrip.{Octets, orderOf, written-reads, read-writes}
-use Rattle.terminal.specs.Request.{areaNamed}
-use Rattle.terminal.specs.Table.{requestIn}
+use Rattle.decide.specs.Request.{areaNamed}
+use Rattle.decide.specs.Table.{requestIn, silent}
 use Rattle.terminal.specs.Reports.{Report, stateAfter, framesOf, echo, serviceReports, asked, asksAcceptance, asksCompletion}
-use Rattle.demands.proofs.Laws.{due-bounded, out-front}
-use Rattle.terminal.specs.Outcome.{silent, Input, reportsFor, acceptedReports, reportsDue, served, storeAfter, verdictOn, reportsOn, octetsDue, outcomeOf, outAfter, storeOn}
+use Rattle.terminal.proofs.Due.{due-bounded}
+use Rattle.demands.proofs.Laws.{out-front}
+use Rattle.terminal.specs.Outcome.{Input, reportsFor, acceptedReports, reportsDue, served, storeAfter, verdictOn, reportsOn, octetsDue, outcomeOf, outAfter, storeOn}
 
 -- The reports due for an accepted packet, in order: (1,1) if asked, the service's, (1,7) if asked.
 abbrev pub due : Input → List Report

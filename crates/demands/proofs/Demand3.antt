@@ -11,7 +11,7 @@ use Rattle.checks.specs.declared.Verdict.the-variants.{Accepted, Buffer, Caller
 use Rattle.checks.specs.Verdict.{isAccepted, numberOf}
 use Rattle.map.specs.declared.Profile.{Profile}
 use Rattle.map.specs.Wider.{wider}
-use Rattle.terminal.specs.declared.State.{State}
+use Rattle.decide.specs.declared.State.{State}
 use Rattle.terminal.specs.Outcome.{Input, verdictOn, octetsDue, outcomeOf, storeOn}
 use Rattle.terminal.specs.Run.{Step, answerTo, inputFor, placeOn}
 use Rattle.demands.proofs.Rows.{MayPart}

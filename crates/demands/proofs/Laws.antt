@@ -1,24 +1,22 @@
--- Laws of the answer, over its definition: how much is written, what stands in the output buffer and in the store afterwards, what the counts become, and that nothing of it is left open.
+-- Laws of the answer, over its definition: what stands in the output buffer and in the store afterwards, what the counts become, and that nothing of it is left open.
 -- Assumes nothing.
--- ---- how much is written
 use mathlib.Core.Path.{_≡_, refl, sym, ap, subst, _∙_}
-use mathlib.Core.Bool.{Bool, true, false, false≢true}
+use mathlib.Core.Bool.{true, false}
 use mathlib.Core.Logic.{_⊎_, inl, inr, ⊎-elim}
-use mathlib.Core.List.{List, [], _∷_, _++_, map, List·Memᴰ}
-use Prim.Native.Nat.{ℕ, _+_, _*_, _≤_, _<_}
+use mathlib.Core.List.{List, [], _∷_, _++_, List·Memᴰ}
+use Prim.Native.Nat.{ℕ, _+_, _≤_, _<_}
 use native.Mathlib.Nat.{zero-add}
 use native.Mathlib.Omega.{arith}
-use lib.ListN.{length, drop, getD, set, length-append, length-take}
+use lib.ListN.{length, drop, getD, set}
 use lib.Seq.{getD-set-other}
 use lib.Dec.{eqb}
 use borrow.Author.Tests.{ne-eqb}
 use Rattle.octets.specs.Copy.{laid}
 use Rattle.octets.specs.Count.{nextCount}
 use Rattle.octets.proofs.Laid.{laid-length, laid-none, laid-eq}
-use Rattle.checks.specs.declared.Verdict.{Verdict}
-use Rattle.checks.specs.Verdict.{isAccepted, numberOf, detailOf}
+use Rattle.checks.specs.Verdict.{isAccepted}
 use Rattle.checks.proofs.Table.{by-test}
-use Rattle.tc.specs.Layout.{applicationOf, fieldsOf}
+use Rattle.tc.specs.Layout.{applicationOf}
 use Rattle.map.specs.declared.Area.{Area}
 use Rattle.map.specs.declared.Found.{Found}
 use Rattle.map.specs.declared.Found.the-variants.{At, Nothing}
@@ -28,134 +26,39 @@ use Rattle.map.proofs.Octets.{inside-facts}
 use Rattle.blocks.specs.declared.Action.the-variants.{Load, Dump, Check}
 use Rattle.blocks.specs.declared.Block.{Block}
 use Rattle.blocks.specs.declared.Form.the-variants.{Right}
-use Rattle.blocks.specs.Blocks.{memoryId, blockCount, blocksOf, wordOctets, wordsOf}
+use Rattle.blocks.specs.Blocks.{memoryId, blocksOf, wordOctets, wordsOf}
 use Rattle.blocks.specs.Each.{Each}
 use Rattle.blocks.specs.Form.{formOf}
-use Rattle.blocks.proofs.Blocks.{Bounds, blocksFrom-length}
 use Rattle.blocks.proofs.Each.{each-so, each-both}
 use Rattle.blocks.proofs.First.{none-each}
-use Rattle.blocks.proofs.WellFormed.{right-head, right-bounds, right-words}
-use Rattle.tm.specs.Source.{echoOf, failure, dumpHead, checkHead}
-use Rattle.tm.proofs.Frame.{frame-length}
-use Rattle.terminal.specs.declared.State.{State}
-use Rattle.terminal.specs.declared.Request.{Request}
-use Rattle.terminal.specs.declared.Request.the-variants.{Memory, Connection, Unknown}
-use Rattle.terminal.specs.Request.{areaNamed, formFor, outsideOf}
-use Rattle.terminal.specs.Table.{requestIn}
-use Rattle.terminal.specs.Reports.{Report, counted, countFor, stateAfter, stamped, framesOf, echo, refusal, storedAt, dumped, entriesOf, serviceReports, asked, asksAcceptance, asksCompletion}
-use Rattle.terminal.specs.Outcome.{Input, reportsFor, acceptedReports, silent, loaded, served, verdictOn, reportsOn, octetsDue, outcomeOf, outAfter, storeOn}
-use Rattle.terminal.proofs.Sizes.{stored-most, entries-length}
-use Rattle.terminal.proofs.Decided.{heard-facts, accepted-facts, memory-accepted, memory-form}
-use Rattle.terminal.proofs.Outside.{insideOf}
-use Rattle.terminal.proofs.Answering.{accepted-due, accepted-store, accepted-form, accepted-verdict, refused-store, refused-due, silent-due}
-
--- How many octets the frames of some reports are: sixteen more than its source data for each.
-abbrev pub octetsIn : List Report → ℕ
-octetsIn [] = 0
-octetsIn (r ∷ rest) = 16 + length (r .source) + octetsIn rest
-
--- So many octets their frames are, whatever the counts.
-pub frames-size : (pid : ℕ) (time : List ℕ) (s : State) (rs : List Report) → length time ≡ 6 → length (framesOf pid time s rs) ≡ octetsIn rs
-unfolding framesOf stamped
-frames-size pid time s [] six = refl
-frames-size pid time s (r ∷ rest) six =
-    let here = frame-length (record { pid = pid; count = countFor s (r .kind); time = time; kind = r .kind; subtype = r .subtype }) (r .source) six in
-    let more = frames-size pid time (counted s (r .kind)) rest six in
-    length-append (stamped pid time s r) (framesOf pid time (counted s (r .kind)) rest) ∙ omega arith
-
-size-append : (xs ys : List Report) → octetsIn (xs ++ ys) ≡ octetsIn xs + octetsIn ys
-size-append [] ys = sym (zero-add (octetsIn ys))
-size-append (x ∷ xs) ys =
-    let more = size-append xs ys in
-    omega arith
-
--- (1,1) and (1,7) are at most 20 octets, asked for or not.
-echo-most : (asks : Bool) (subtype : ℕ) (packet : List ℕ) → octetsIn (asked asks (echo subtype packet)) ≤ 20
-echo-most true subtype packet = omega (arith, length-take 4 packet)
-echo-most false subtype packet = omega arith
-
--- (1,2) is at most 24 octets.
-refusal-most : (v : Verdict) (packet : List ℕ) → octetsIn (refusal v packet ∷ []) ≤ 24
-refusal-most v packet = omega (arith, length-append (echoOf packet) (failure (numberOf v) (detailOf v)), length-take 4 packet)
-
--- The (6,6) of blocks that are not too long are at most 504 octets each.
-dump-most : (a : Area) (memory : ℕ) (store : List ℕ) (octets : ℕ) (blocks : List Block) → Each (Bounds Dump octets) blocks
-    → octetsIn (map (dumped a memory store) blocks) ≤ 504 * length blocks
-dump-most a memory store octets [] h = omega arith
-dump-most a memory store octets (b ∷ rest) h =
-    let more = dump-most a memory store octets rest (h .1) in
-    omega (arith, h .0 .most, stored-most a store (b .start) (b .words), length-append (dumpHead memory (b .start) (b .words)) (storedAt a store (b .start) (b .words)))
-
--- The service's reports on well formed data are at most 4,032 octets.
-service-most : (f : Found) (q : Request) (d store : List ℕ) → formFor q d ≡ Right → octetsIn (serviceReports f q d store) ≤ 4032
-service-most (At a) (Memory Load) d store form = omega arith
-service-most (At a) (Memory Dump) d store form =
-    omega (arith, dump-most a (memoryId d) store (length d) (blocksOf Dump d) (right-bounds Dump d form), right-head Dump d form .2, blocksFrom-length Dump d (blockCount d) 2)
-service-most (At a) (Memory Check) d store form =
-    omega (arith, entries-length a store (blocksOf Check d), right-head Check d form .2, blocksFrom-length Check d (blockCount d) 2, length-append (checkHead (memoryId d) (blockCount d)) (entriesOf a store (blocksOf Check d)))
-service-most (At a) Connection d store form = omega arith
-service-most (At a) Unknown d store form = omega arith
-service-most Nothing (Memory action) d store form = omega arith
-service-most Nothing Connection d store form = omega arith
-service-most Nothing Unknown d store form = omega arith
+use Rattle.blocks.proofs.WellFormed.{right-words}
+use Rattle.decide.specs.declared.State.{State}
+use Rattle.decide.specs.declared.Request.{Request}
+use Rattle.decide.specs.declared.Request.the-variants.{Memory, Connection, Unknown}
+use Rattle.decide.specs.Request.{areaNamed, outsideOf}
+use Rattle.decide.specs.Table.{requestIn, silent}
+use Rattle.decide.proofs.Decided.{accepted-facts, memory-accepted, memory-form}
+use Rattle.decide.proofs.Outside.{insideOf}
+use Rattle.terminal.specs.Reports.{Report, counted, stateAfter, framesOf}
+use Rattle.terminal.specs.Outcome.{Input, loaded, served, verdictOn, reportsOn, octetsDue, outcomeOf, outAfter, storeOn}
+use Rattle.terminal.proofs.Answering.{accepted-store, accepted-verdict, refused-store, refused-due, silent-due}
+use Rattle.terminal.proofs.Due.{due-fits, silent-refused}
 
 module _ (i : Input) where
-  -- The reports due on an accepted packet are at most 4,072 octets.
-  accepted-most : isAccepted (verdictOn i) ≡ true → octetsIn (reportsOn i) ≤ 4072
-  unfolding acceptedReports reportsFor
-  accepted-most h =
-      let p = i .packet in
-      let d : List ℕ = applicationOf p in
-      let first : List Report = asked (asksAcceptance (fieldsOf p .ack)) (echo 1 p) in
-      let middle : List Report = serviceReports (areaNamed (i .profile) d) (requestIn p) d (i .store) in
-      let last : List Report = asked (asksCompletion (fieldsOf p .ack)) (echo 7 p) in
-      let small : octetsIn (first ++ (middle ++ last)) ≤ 4072 =
-      omega (
-        arith,
-        size-append first (middle ++ last),
-        size-append middle last,
-        echo-most (asksAcceptance (fieldsOf p .ack)) 1 p,
-        service-most (areaNamed (i .profile) d) (requestIn p) d (i .store) (accepted-form i h),
-        echo-most (asksCompletion (fieldsOf p .ack)) 7 p,
-      ) in
-      subst (λ (rs : List Report). octetsIn rs ≤ 4072) (accepted-due i h) small
-
-  reports-most : octetsIn (reportsOn i) ≤ 4072
-  reports-most =
-      by-test (isAccepted (verdictOn i))
-      accepted-most
-      (λ r.
-      by-test (silent (verdictOn i))
-      (λ s. subst (λ (rs : List Report). octetsIn rs ≤ 4072) (silent-due i r s) (omega arith))
-      (λ h. subst (λ (rs : List Report). octetsIn rs ≤ 4072) (refused-due i r h) (omega (arith, refusal-most (verdictOn i) (i .packet)))))
-
-  -- No packet is answered with more than 4,072 octets.
-  pub due-bounded : length (i .time) ≡ 6 → length (octetsDue i) ≤ 4072
-  unfolding octetsDue
-  due-bounded six = omega (arith, frames-size (i .profile .pid) (i .time) (i .state) (reportsOn i) six, reports-most)
-
   -- ---- what stands in the output buffer
 
   -- The frames due are the front of the output buffer, and every octet behind them keeps its value.
   pub out-front : length (i .time) ≡ 6 → silent (verdictOn i) ≡ false → outAfter i ≡ octetsDue i ++ drop (length (octetsDue i)) (i .out)
   unfolding outAfter
   out-front six heard =
-      let room = heard-facts (i .profile) (i .state) (length (i .store)) (length (i .out)) (i .packet) heard .out in
-      laid-eq (i .out) 0 (octetsDue i) (omega (arith, due-bounded six))
+      laid-eq (i .out) 0 (octetsDue i) (omega (arith, due-fits i six))
       ∙ ap (λ (n : ℕ). octetsDue i ++ drop n (i .out)) (zero-add (length (octetsDue i)))
-
-  -- A verdict without a frame is no acceptance.
-  silent-refused : silent (verdictOn i) ≡ true → isAccepted (verdictOn i) ≡ false
-  silent-refused s =
-      by-test (isAccepted (verdictOn i))
-      (λ h. absurd (false≢true (sym (ap silent (accepted-verdict i h)) ∙ s)))
-      (λ h. h)
 
   -- A verdict without a frame leaves the output buffer as it is.
   pub out-silent : silent (verdictOn i) ≡ true → outAfter i ≡ i .out
   unfolding outAfter octetsDue framesOf
   out-silent s =
-      ap (λ (rs : List Report). laid (i .out) 0 (framesOf (i .profile .pid) (i .time) (i .state) rs)) (sym (silent-due i (silent-refused s) s))
+      ap (λ (rs : List Report). laid (i .out) 0 (framesOf (i .profile .pid) (i .time) (i .state) rs)) (sym (silent-due i (silent-refused i s) s))
       ∙ laid-none (i .out) 0
 
 -- ---- what stands in the store

@@ -18,11 +18,11 @@ use Rattle.tc.specs.Reader.{headerFault, readerRows}
 use Rattle.map.specs.declared.Profile.{Profile}
 use Rattle.map.specs.Wider.{wider}
 use Rattle.blocks.specs.Blocks.{memoryId}
-use Rattle.terminal.specs.declared.State.{State}
-use Rattle.terminal.specs.declared.Request.{Request}
-use Rattle.terminal.specs.declared.Request.the-variants.{Memory as Asks, Connection, Unknown}
-use Rattle.terminal.specs.Request.{formFor, formDetail}
-use Rattle.terminal.specs.Table.{staysInside, outsideDetail, callerRows, requestRows, requestIn, rows, decided}
+use Rattle.decide.specs.declared.State.{State}
+use Rattle.decide.specs.declared.Request.{Request}
+use Rattle.decide.specs.declared.Request.the-variants.{Memory as Asks, Connection, Unknown}
+use Rattle.decide.specs.Request.{formFor, formDetail}
+use Rattle.decide.specs.Table.{staysInside, outsideDetail, callerRows, requestRows, requestIn, rows, decided}
 use Rattle.demands.proofs.Widened.{widened, outside-later}
 
 -- ---- tables

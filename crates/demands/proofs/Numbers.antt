@@ -16,7 +16,7 @@ use Rattle.blocks.specs.declared.Form.{Form}
 use Rattle.blocks.specs.declared.Form.the-variants.{Right, Wrong}
 use Rattle.blocks.specs.Each.{Each}
 use Rattle.blocks.specs.Form.{formOf}
-use Rattle.terminal.specs.declared.State.{State}
+use Rattle.decide.specs.declared.State.{State}
 use Rattle.terminal.specs.Outcome.{verdictOn, octetsDue, outcomeOf}
 use Rattle.terminal.specs.Examples.{lineArea, lineInput, firstLine, secondLine}
 use Rattle.demands.proofs.Computing.{all}

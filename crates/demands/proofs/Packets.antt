@@ -8,7 +8,7 @@ use Rattle.tc.specs.Layout.{packetOf}
 use Rattle.tc.specs.Writer.{fieldsFor}
 use Rattle.map.specs.declared.Area.{Area}
 use Rattle.map.specs.declared.Profile.{Profile}
-use Rattle.terminal.specs.declared.State.{State}
+use Rattle.decide.specs.declared.State.{State}
 use Rattle.terminal.specs.Outcome.{Input}
 use Rattle.terminal.specs.Examples.{noArea}
 

@@ -20,9 +20,9 @@ use Rattle.tc.specs.Reader.{readerRows}
 use Rattle.tm.specs.Frame.{frameOf}
 use Rattle.tm.specs.Source.{echoOf, failure}
 use Rattle.tm.proofs.Frame.{frame-length}
-use Rattle.terminal.specs.Table.{callerRight, callerRows, rows, decided}
+use Rattle.decide.specs.Table.{callerRight, callerRows, rows, decided, silent}
 use Rattle.terminal.specs.Reports.{counted, countFor, stateAfter, stamped, framesOf, refusal}
-use Rattle.terminal.specs.Outcome.{Input, silent, reportsDue, storeAfter, verdictOn, reportsOn, octetsDue, outcomeOf, outAfter, storeOn}
+use Rattle.terminal.specs.Outcome.{Input, reportsDue, storeAfter, verdictOn, reportsOn, octetsDue, outcomeOf, outAfter, storeOn}
 
 -- A verdict without a frame is a refusal.
 pub silent-refuses : (v : Verdict) → silent v ≡ true → isAccepted v ≡ false

@@ -19,11 +19,11 @@ use Rattle.map.proofs.Widening.{WiderFacts, wider-facts}
 use Rattle.blocks.specs.declared.Action.{Action}
 use Rattle.blocks.specs.declared.Action.the-variants.{Load, Dump, Check}
 use Rattle.blocks.specs.Blocks.{memoryId}
-use Rattle.terminal.specs.declared.State.{State}
-use Rattle.terminal.specs.declared.Request.{Request}
-use Rattle.terminal.specs.declared.Request.the-variants.{Memory as Asks, Connection, Unknown}
-use Rattle.terminal.specs.Request.{serves, flagFor, offers}
-use Rattle.terminal.specs.Table.{callerRight, namesArea, mayDo, staysInside, callerRows, requestRows, requestIn, rows}
+use Rattle.decide.specs.declared.State.{State}
+use Rattle.decide.specs.declared.Request.{Request}
+use Rattle.decide.specs.declared.Request.the-variants.{Memory as Asks, Connection, Unknown}
+use Rattle.decide.specs.Request.{serves, flagFor, offers}
+use Rattle.decide.specs.Table.{callerRight, namesArea, mayDo, staysInside, callerRows, requestRows, requestIn, rows}
 use Rattle.demands.proofs.Widened.{widened, found-grows, right-grows, inside-grows}
 
 -- ---- tables side by side

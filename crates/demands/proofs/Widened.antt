@@ -25,10 +25,10 @@ use Rattle.blocks.specs.Blocks.{blocksOf, memoryId, wordsOf}
 use Rattle.blocks.specs.Each.{Each}
 use Rattle.blocks.proofs.Each.{each-so}
 use Rattle.blocks.proofs.First.{none-each, implied-later}
-use Rattle.terminal.specs.declared.Request.{Request}
-use Rattle.terminal.specs.declared.Request.the-variants.{Memory as Asks, Connection, Unknown}
-use Rattle.terminal.specs.Request.{rightFor, areaNamed, isFound, hasRight, outsideOf}
-use Rattle.terminal.specs.Table.{outsideNumber, allInside, staysInside}
+use Rattle.decide.specs.declared.Request.{Request}
+use Rattle.decide.specs.declared.Request.the-variants.{Memory as Asks, Connection, Unknown}
+use Rattle.decide.specs.Request.{rightFor, areaNamed, isFound, hasRight, outsideOf}
+use Rattle.decide.specs.Table.{outsideNumber, allInside, staysInside}
 use Rattle.terminal.specs.Reports.{storedAt, storedOf, dumped, entriesOf, memoryReports, serviceReports}
 use Rattle.terminal.specs.Outcome.{loaded, served}
 

@@ -12,15 +12,15 @@ use Rattle.checks.specs.declared.Verdict.{Verdict}
 use Rattle.checks.specs.declared.Verdict.the-variants.{Accepted}
 use Rattle.blocks.specs.declared.Form.the-variants.{Right}
 use Rattle.tc.specs.Layout.{applicationOf}
-use Rattle.terminal.specs.Request.{areaNamed, formFor}
-use Rattle.terminal.specs.Table.{requestIn}
-use Rattle.terminal.proofs.Checked.{accepted-is}
-use Rattle.terminal.proofs.Decided.{heard-facts, accepted-facts}
+use Rattle.decide.specs.Request.{areaNamed, formFor}
+use Rattle.decide.specs.Table.{requestIn, silent}
+use Rattle.decide.proofs.Checked.{accepted-is}
+use Rattle.decide.proofs.Decided.{heard-facts, accepted-facts}
 use Rattle.checks.specs.Verdict.{isAccepted}
 use Rattle.terminal.specs.declared.Outcome.{Outcome}
 use Rattle.terminal.specs.declared.act.Progress.{Progress}
 use Rattle.terminal.specs.Reports.{Report, framesOf, stateAfter, refusal}
-use Rattle.terminal.specs.Outcome.{Input, verdictOn, reportsOn, reportsDue, acceptedReports, silent, served, storeAfter, octetsDue, outcomeOf, outAfter, storeOn, Answered}
+use Rattle.terminal.specs.Outcome.{Input, verdictOn, reportsOn, reportsDue, acceptedReports, served, storeAfter, octetsDue, outcomeOf, outAfter, storeOn, Answered}
 use Rattle.terminal.specs.Act.{Did}
 
 module _ (i : Input) where

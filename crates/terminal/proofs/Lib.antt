@@ -1,7 +1,5 @@
 pub mod Answering
-pub mod Checked
-pub mod Decided
-pub mod Outside
+pub mod Due
 pub mod Sizes
 pub mod Steps
 pub mod Walks

@@ -16,7 +16,7 @@ use Rattle.tm.specs.declared.Stamp.{Stamp}
 use Rattle.tm.specs.Frame.{headOf, frameOf}
 use Rattle.tm.specs.Source.{checkHead}
 use Rattle.tm.proofs.Frame.{head-length}
-use Rattle.terminal.specs.declared.State.{State}
+use Rattle.decide.specs.declared.State.{State}
 use Rattle.terminal.specs.Reports.{countFor, stamped, storedAt, entryOf, entriesOf, checked}
 use Rattle.terminal.specs.Act.{checkFirst}
 

@@ -9,7 +9,7 @@ use native.Mathlib.Omega.{arith}
 use lib.ListN.{length, length-append}
 use Rattle.octets.specs.Copy.{laid}
 use Rattle.octets.proofs.Laid.{laid-append, laid-none}
-use Rattle.terminal.specs.declared.State.{State}
+use Rattle.decide.specs.declared.State.{State}
 use Rattle.terminal.specs.declared.act.Sender.{Sender}
 use Rattle.terminal.specs.declared.act.Progress.{Progress}
 use Rattle.terminal.specs.Reports.{Report, counted, stamped, framesOf, stateAfter, asked}

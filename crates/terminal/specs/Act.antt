@@ -7,7 +7,7 @@ use Rattle.octets.specs.Copy.{laid}
 use Rattle.blocks.specs.Blocks.{memoryId, blockCount}
 use Rattle.tm.specs.Frame.{headOf}
 use Rattle.tm.specs.Source.{checkHead}
-use Rattle.terminal.specs.declared.State.{State}
+use Rattle.decide.specs.declared.State.{State}
 use Rattle.terminal.specs.declared.act.Sender.{Sender}
 use Rattle.terminal.specs.declared.act.Progress.{Progress}
 use Rattle.terminal.specs.Reports.{Report, countFor, framesOf, stateAfter}

@@ -17,10 +17,10 @@ use Rattle.map.specs.Sound.{storeAllowed, areaSound, apart, pairSound, every, e
 use Rattle.blocks.specs.Blocks.{blockAt, blocksFrom, wordsOf}
 use Rattle.blocks.specs.Form.{blockRight, headRight, blockFault, endOf, exact, formOf, emptyForm}
 use Rattle.tm.specs.Frame.{headOf, frameOf}
-use Rattle.terminal.specs.declared.State.{State}
+use Rattle.decide.specs.declared.State.{State}
+use Rattle.decide.specs.Request.{serves, requestOf, outsideOf}
+use Rattle.decide.specs.Table.{callerRight, callerRows, requestRows, rows, decided}
 use Rattle.terminal.specs.declared.Outcome.{Outcome}
-use Rattle.terminal.specs.Request.{serves, requestOf, outsideOf}
-use Rattle.terminal.specs.Table.{callerRight, callerRows, requestRows, rows, decided}
 use Rattle.terminal.specs.Reports.{counted, countFor, stateAfter, stamped, framesOf, entriesOf}
 use Rattle.terminal.specs.Outcome.{Input, reportsFor, acceptedReports, reportsDue, loaded, storeAfter, octetsDue, outcomeOf, outAfter, storeOn}
 

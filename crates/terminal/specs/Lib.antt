@@ -1,5 +1,3 @@
-pub mod Request
-pub mod Table
 pub mod Reports
 pub mod Outcome
 pub mod Run

@@ -1,12 +1,11 @@
 -- Document 01: what one packet does to counts, store and output buffer.
 use mathlib.Core.Path.{_≡_}
-use mathlib.Core.Bool.{Bool, true, false, cond}
+use mathlib.Core.Bool.{cond}
 use mathlib.Core.List.{List, [], _∷_, _++_}
 use Prim.Native.Nat.{ℕ}
 use lib.ListN.{length}
 use Rattle.octets.specs.Copy.{laid}
 use Rattle.checks.specs.declared.Verdict.{Verdict}
-use Rattle.checks.specs.declared.Verdict.the-variants.{Accepted, Buffer, Caller, Short, Length, Control, Header, Apid, Service, Subtype, Form, Memory, Right, Outside}
 use Rattle.checks.specs.Verdict.{isAccepted}
 use Rattle.tc.specs.Layout.{fieldsOf, applicationOf}
 use Rattle.map.specs.declared.Area.{Area}
@@ -17,12 +16,12 @@ use Rattle.map.specs.Place.{octetAt}
 use Rattle.blocks.specs.declared.Action.the-variants.{Load, Dump, Check}
 use Rattle.blocks.specs.declared.Block.{Block}
 use Rattle.blocks.specs.Blocks.{blocksOf, wordsOf}
-use Rattle.terminal.specs.declared.State.{State}
+use Rattle.decide.specs.declared.State.{State}
+use Rattle.decide.specs.declared.Request.{Request}
+use Rattle.decide.specs.declared.Request.the-variants.{Memory as Asks, Connection, Unknown}
+use Rattle.decide.specs.Request.{areaNamed}
+use Rattle.decide.specs.Table.{requestIn, decided, silent}
 use Rattle.terminal.specs.declared.Outcome.{Outcome}
-use Rattle.terminal.specs.declared.Request.{Request}
-use Rattle.terminal.specs.declared.Request.the-variants.{Memory as Asks, Connection, Unknown}
-use Rattle.terminal.specs.Request.{areaNamed}
-use Rattle.terminal.specs.Table.{requestIn, decided}
 use Rattle.terminal.specs.Reports.{Report, stateAfter, framesOf, echo, refusal, serviceReports, asked, asksAcceptance, asksCompletion}
 
 -- The reports due for an accepted packet, in order: (1,1) if asked, the service's, (1,7) if asked.
@@ -35,23 +34,6 @@ reportsFor p request ack packet application store =
 -- Those of the packet's own request, ack and application data.
 unfoldable pub acceptedReports : Profile → List ℕ → List ℕ → List Report
 acceptedReports p packet store = reportsFor p (requestIn packet) (fieldsOf packet .ack) packet (applicationOf packet) store
-
--- 40, 41 and 42 give no frame.
-abbrev pub silent : Verdict → Bool
-silent Accepted = false
-silent Buffer = true
-silent Caller = true
-silent Short = true
-silent (Length d) = false
-silent (Control d) = false
-silent (Header d) = false
-silent (Apid d) = false
-silent (Service d) = false
-silent (Subtype d) = false
-silent (Form d) = false
-silent (Memory d) = false
-silent (Right d) = false
-silent (Outside d) = false
 
 -- The reports due for a verdict.
 unfoldable pub reportsDue : Profile → List ℕ → List ℕ → Verdict → List Report

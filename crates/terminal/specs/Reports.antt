@@ -19,9 +19,9 @@ use Rattle.blocks.specs.Blocks.{memoryId, blockCount, blocksOf}
 use Rattle.tm.specs.declared.Stamp.{Stamp}
 use Rattle.tm.specs.Frame.{frameOf}
 use Rattle.tm.specs.Source.{echoOf, failure, dumpHead, checkHead, checkEntry}
-use Rattle.terminal.specs.declared.State.{State}
-use Rattle.terminal.specs.declared.Request.{Request}
-use Rattle.terminal.specs.declared.Request.the-variants.{Memory, Connection, Unknown}
+use Rattle.decide.specs.declared.State.{State}
+use Rattle.decide.specs.declared.Request.{Request}
+use Rattle.decide.specs.declared.Request.the-variants.{Memory, Connection, Unknown}
 
 -- A report before it is stamped: its type, subtype and source data.
 pub record Report : Type 0 where

@@ -5,9 +5,9 @@ use lib.ListN.{length}
 use Rattle.checks.specs.declared.Verdict.{Verdict}
 use Rattle.checks.specs.Table.{place}
 use Rattle.map.specs.declared.Profile.{Profile}
-use Rattle.terminal.specs.declared.State.{State}
+use Rattle.decide.specs.declared.State.{State}
+use Rattle.decide.specs.Table.{rows}
 use Rattle.terminal.specs.declared.Outcome.{Outcome}
-use Rattle.terminal.specs.Table.{rows}
 use Rattle.terminal.specs.Outcome.{Input, outcomeOf, storeOn, outAfter}
 
 -- What comes in: a packet, its time, and an output buffer.

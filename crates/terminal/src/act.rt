@@ -1,9 +1,9 @@
 // Acts on a decision: lays the reports due into the output buffer, one after another, and writes a load's words into the store.
-use super::Request;
-use super::State;
 use blocks::Action;
 use blocks::Block;
 use checks::Verdict;
+use decide::Request;
+use decide::State;
 use map::Area;
 use map::Found;
 use map::Profile;
@@ -20,10 +20,10 @@ ghost use Rattle.octets.specs.Numbers.{octet};
 ghost use Rattle.map.specs.Place.{octetAt};
 ghost use Rattle.blocks.specs.Blocks.{blockAt, blockCount, blocksOf, wordsOf};
 ghost use Rattle.blocks.specs.Form.{formOf};
-ghost use Rattle.terminal.specs.Request.{formFor, areaNamed};
+ghost use Rattle.decide.specs.Request.{formFor, areaNamed};
 ghost use Rattle.terminal.specs.Reports.{Report, counted, countFor, echo, refusal, connected, memoryReports, serviceReports, asked, storedAt, dumped, entryOf, entriesOf};
 ghost use Rattle.tc.specs.Layout.{applicationOf};
-ghost use Rattle.terminal.specs.Table.{requestIn};
+ghost use Rattle.decide.specs.Table.{requestIn};
 ghost use Rattle.terminal.specs.Outcome.{loaded, served, reportsFor, acceptedReports};
 ghost use Rattle.terminal.specs.Act.{Did, checkFirst};
 
@@ -380,7 +380,7 @@ pub(crate) fn accept(
 {
     let fields = tc::reader::fields(packet);
     let application = tc::reader::application(packet, Verdict::Accepted);
-    let request = super::decide::request_of(fields.kind, fields.subtype);
+    let request = decide::request_of(fields.kind, fields.subtype);
     let sender = Sender {
         pid: profile.pid,
         time,

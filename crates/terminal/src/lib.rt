@@ -1,11 +1,12 @@
 // The terminal of document 01: one telecommand packet in; verdict, frames, counts and store out.
 use checks::Verdict;
+use decide::State;
 use map::Profile;
 ghost use mathlib.Core.Path.{_≡_};
-ghost use Rattle.terminal.specs.Outcome.{Answered, silent};
+ghost use Rattle.decide.specs.Table.{silent};
+ghost use Rattle.terminal.specs.Outcome.{Answered};
 
 pub mod act;
-pub mod decide;
 
 // Answers one packet, whatever it is: decides first, and acts after. The frames due fill the front of the output buffer.
 pub fn answer(
@@ -68,27 +69,9 @@ fn is_silent(v: Verdict) -> bool
     }
 }
 
-// The counts of the terminal's reports, one for each category.
-pub struct State {
-    // Of category 1: service 1.
-    pub reports: u16,
-    // Of category 9: services 6 and 17.
-    pub services: u16,
-}
-
 // What a packet is answered: the verdict, the octets written at the front of the output buffer, and the counts afterwards.
 pub struct Outcome {
     pub verdict: checks::Verdict,
     pub written: usize,
     pub state: State,
-}
-
-// What a packet asks for, by its type and subtype.
-pub enum Request {
-    // (6,2), (6,5) or (6,9).
-    Memory(blocks::Action),
-    // (17,1).
-    Connection,
-    // Anything else.
-    Unknown,
 }

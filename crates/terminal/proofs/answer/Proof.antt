@@ -5,9 +5,10 @@ use mathlib.Core.Bool.{true, false}
 use mathlib.Core.Path.{_≡_, refl, sym, ap, _∙_}
 use denote.Ref.{now}
 use borrow.Author.Needs.{needs}
+use Rattle.decide.specs.Table.{silent}
 use Rattle.terminal.proofs.Answering.{answered, accepted-due, accepted-store, refused-store, silent-due, refused-due, heard-four, accepted-verdict, accepted-form}
 use Rattle.terminal.proofs.Steps.{did-none}
-use Rattle.terminal.specs.Outcome.{Input, verdictOn, silent, acceptedReports}
+use Rattle.terminal.specs.Outcome.{Input, verdictOn, acceptedReports}
 use Rattle.terminal.specs.Reports.{refusal}
 use Rattle.checks.specs.Verdict.{isAccepted}
 use Rattle.checks.specs.declared.Verdict.{Verdict}

@@ -1,12 +1,11 @@
+-- `cases::session::fill` meets its contract.
+-- Assumes nothing.
 use mathlib.Core.Path.{_≡_}
-use Prim.Native.Nat.{_≤_, _<_, _-_}
+use Prim.Native.Nat.{_-_}
 use lib.ListN.{length}
-use native.Mathlib.Omega.{arith}
 use borrow.Author.Needs.{needs}
 use Rattle.cases.proofs.session.fill.Statement.{statement}
 use Rattle.cases.proofs.session.fill.Tie as tie
-use Rattle.cases.proofs.session.fill.Reads as reads
-use Rattle.cases.proofs.session.fill.Lts as lts
 
 abbrev Inv-loop : tie.InvT-loop
 Inv-loop buffer₀ count octet i₀ buffer i = length buffer ≡ length buffer₀
@@ -14,39 +13,30 @@ Inv-loop buffer₀ count octet i₀ buffer i = length buffer ≡ length buffer�
 abbrev μ-loop : tie.MeasureT-loop
 μ-loop buffer₀ count octet i₀ buffer i = length buffer₀ - i
 
--- src/session.rt:184:5
 loop-holds : tie.Need-loop-holds Inv-loop μ-loop
 loop-holds c = search needs
 
--- src/session.rt:186:13
 same-length : tie.Need-same-length Inv-loop μ-loop
 same-length c = search needs
 
--- src/session.rt:186:13
 returns : tie.Need-returns Inv-loop μ-loop
 returns c = search needs
 
--- src/session.rt:188:9
 slice-write-buffer : tie.Need-slice-write-buffer Inv-loop μ-loop
 slice-write-buffer c = search needs
 
--- src/session.rt:189:9
 add-i : tie.Need-add-i Inv-loop μ-loop
 add-i c = search needs
 
--- src/session.rt:184:5
 loop-less : tie.Need-loop-less Inv-loop μ-loop
 loop-less c = search needs
 
--- src/session.rt:184:5
 loop-again : tie.Need-loop-again Inv-loop μ-loop
 loop-again c = search needs
 
--- src/session.rt:182:1
 same-length-2 : tie.Need-same-length-2 Inv-loop μ-loop
 same-length-2 c = search needs
 
--- src/session.rt:182:1
 returns-2 : tie.Need-returns-2 Inv-loop μ-loop
 returns-2 c = search needs
 

@@ -1,8 +1,6 @@
 use borrow.Author.Tests.{le-leb, lt-leb}
 use borrow.Author.Needs.{needs}
 use Rattle.octets.specs.Copy.{between}
-use Rattle.octets.proofs.copy.part.Reads as reads
-use Rattle.octets.proofs.copy.part.Lts as lts
 use Rattle.octets.proofs.copy.part.Statement.{statement}
 use Rattle.octets.proofs.copy.part.Tie as tie
 

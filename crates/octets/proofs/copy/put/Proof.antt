@@ -7,9 +7,6 @@ use denote.Ref.{now}
 use borrow.Author.Needs.{needs}
 use Rattle.octets.specs.Copy.{laid}
 use Rattle.octets.proofs.Laid.{laid-none, laid-next, laid-fitting}
-use Rattle.octets.proofs.copy.put.Reads as reads
-use Rattle.octets.proofs.copy.put.Lts as lts
-use Rattle.octets.proofs.copy.fitting.Reads as fitting-reads
 use Rattle.octets.proofs.copy.put.Statement.{statement}
 use Rattle.octets.proofs.copy.put.Tie as tie
 

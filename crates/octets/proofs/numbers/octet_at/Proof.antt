@@ -2,9 +2,6 @@ use mathlib.Core.Path.{sym}
 use denote.Ref.{now}
 use borrow.Author.Needs.{needs}
 use Rattle.octets.proofs.Words.{octet-past}
-use Rattle.octets.proofs.numbers.octet_at.Reads as reads
-use Rattle.octets.proofs.numbers.octet_at.Lts as lts
-use Rattle.octets.proofs.numbers.wide.Reads as wide-reads
 use Rattle.octets.proofs.numbers.octet_at.Statement.{statement}
 use Rattle.octets.proofs.numbers.octet_at.Tie as tie
 

@@ -2,9 +2,6 @@ use mathlib.Core.Path.{sym}
 use denote.Ref.{now}
 use borrow.Author.Needs.{needs}
 use Rattle.octets.proofs.Words.{word32-past}
-use Rattle.octets.proofs.numbers.word32_at.Reads as reads
-use Rattle.octets.proofs.numbers.word32_at.Lts as lts
-use Rattle.octets.proofs.numbers.word16_at.Reads as word16-at-reads
 use Rattle.octets.proofs.numbers.word32_at.Statement.{statement}
 use Rattle.octets.proofs.numbers.word32_at.Tie as tie
 

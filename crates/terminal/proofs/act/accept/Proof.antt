@@ -5,11 +5,11 @@ use mathlib.Core.Path.{_≡_, refl, ap, ap₂, _∙_, subst₃}
 use Prim.Native.Nat.{ℕ}
 use denote.Ref.{now}
 use borrow.Author.Needs.{needs}
+use Rattle.decide.specs.Table.{requestIn}
+use Rattle.decide.specs.Request.{requestOf, formFor, areaNamed}
+use Rattle.decide.specs.declared.Request.{Request}
 use Rattle.terminal.specs.Act.{Did}
 use Rattle.terminal.specs.Outcome.{reportsFor, acceptedReports, served}
-use Rattle.terminal.specs.Table.{requestIn}
-use Rattle.terminal.specs.Request.{requestOf, formFor, areaNamed}
-use Rattle.terminal.specs.declared.Request.{Request}
 use Rattle.tc.specs.Reader.{dataFor}
 use Rattle.tc.specs.Layout.{applicationOf}
 use Rattle.tc.specs.declared.Fields.{Fields}

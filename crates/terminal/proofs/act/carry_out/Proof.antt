@@ -5,10 +5,10 @@ use Prim.Native.Nat.{ℕ}
 use native.Mathlib.Omega.{arith}
 use denote.Ref.{now}
 use borrow.Author.Needs.{needs}
+use Rattle.decide.specs.Request.{areaNamed}
 use Rattle.terminal.proofs.Steps.{did-then}
 use Rattle.terminal.specs.Outcome.{reportsFor}
 use Rattle.terminal.specs.Reports.{echo, serviceReports, asked, asksAcceptance, asksCompletion}
-use Rattle.terminal.specs.Request.{areaNamed}
 use Rattle.terminal.proofs.act.carry_out.Statement.{statement}
 use Rattle.terminal.proofs.act.carry_out.Tie as tie
 

@@ -5,13 +5,13 @@ use mathlib.Core.Path.{_≡_, refl, sym, subst}
 use Prim.Native.Nat.{ℕ}
 use denote.Ref.{now}
 use borrow.Author.Needs.{needs}
+use Rattle.decide.specs.Request.{areaNamed, formFor}
+use Rattle.decide.specs.declared.Request.{Request}
 use Rattle.terminal.proofs.Steps.{did-none}
 use Rattle.terminal.specs.Act.{Did}
 use Rattle.terminal.specs.Outcome.{served}
 use Rattle.terminal.specs.Reports.{serviceReports}
-use Rattle.terminal.specs.Request.{areaNamed, formFor}
 use Rattle.terminal.specs.declared.act.Progress.{Progress}
-use Rattle.terminal.specs.declared.Request.{Request}
 use Rattle.blocks.specs.declared.Form.the-variants.{Right}
 use Rattle.terminal.proofs.act.serve.Statement.{statement}
 use Rattle.terminal.proofs.act.serve.Tie as tie

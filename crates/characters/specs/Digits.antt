@@ -1,0 +1,29 @@
+-- Document 01, "one packet a line in hexadecimal, both letter cases": digits, and the text of octets in upper case.
+use mathlib.Core.Bool.{Bool, cond, _&&_}
+use mathlib.Core.List.{List, [], _∷_}
+use Prim.Native.Nat.{ℕ, _+_, _-_, _/_, _%_}
+use lib.Dec.{leb, ltb}
+
+-- Whether a character lies in a range, its two ends included.
+abbrev pub within : ℕ → ℕ → ℕ → Bool
+within low high c = leb low c && leb c high
+
+-- The value of a character that is a hexadecimal digit, 0 to 9, A to F or a to f; 16 for one that is none.
+unfoldable pub valueOf : ℕ → ℕ
+valueOf c =
+    cond (within 0x30 0x39 c) (c - 0x30)
+    (cond (within 0x41 0x46 c) (c - 0x41 + 10)
+    (cond (within 0x61 0x66 c) (c - 0x61 + 10) 16))
+
+-- Whether a character is a digit.
+abbrev pub isDigit : ℕ → Bool
+isDigit c = ltb (valueOf c) 16
+
+-- The upper-case digit of a number's low four bits.
+unfoldable pub digitOf : ℕ → ℕ
+digitOf x = cond (ltb (x % 16) 10) (0x30 + x % 16) (0x41 + (x % 16 - 10))
+
+-- The text of octets: the two digits of each, the high one first.
+unfoldable pub textOf : List ℕ → List ℕ
+textOf [] = []
+textOf (x ∷ rest) = digitOf (x / 16) ∷ digitOf x ∷ textOf rest

@@ -1,0 +1,55 @@
+// Characters: hexadecimal digits, and where a line ends.
+ghost use mathlib.Core.Path.{_≡_};
+ghost use Prim.Native.Nat.{_+_};
+ghost use lib.ListN.{length, drop};
+ghost use Rattle.characters.specs.Digits.{valueOf, digitOf};
+ghost use Rattle.characters.specs.Digits.{within as Within};
+ghost use Rattle.characters.specs.Lines.{lineIn};
+
+// Whether a character lies in a range, its two ends included.
+fn lies_within(low: u8, high: u8, c: u8) -> bool
+    ensures { λ r. ⌜ r ≡ Within low high c ⌝ }
+{
+    if c < low {
+        return false;
+    }
+    c <= high
+}
+
+// The value of a character that is a digit, 0 to 9, A to F or a to f; 16 for one that is none.
+pub fn value(c: u8) -> u8
+    ensures { λ r. ⌜ r ≡ valueOf c ⌝ }
+{
+    if lies_within(0x30, 0x39, c) {
+        return c - 0x30;
+    }
+    if lies_within(0x41, 0x46, c) {
+        return c - 0x41 + 10;
+    }
+    if lies_within(0x61, 0x66, c) {
+        return c - 0x61 + 10;
+    }
+    16
+}
+
+// The upper-case digit of a number's low four bits.
+pub fn digit(x: u8) -> u8
+    ensures { λ r. ⌜ r ≡ digitOf x ⌝ }
+{
+    let v = x % 16;
+    if v < 10 { 0x30 + v } else { 0x41 + (v - 10) }
+}
+
+// The place of the first newline from a place on; without one, the end, or that place where it is past the end.
+pub fn line_end(input: &[u8], from: usize) -> usize
+    ensures { λ r. ⌜ r ≡ from + length (lineIn (drop from (now (input .entry)))) ⌝ }
+{
+    let mut end = from;
+    while end < input.len() {
+        if input[end] == 10 {
+            return end;
+        }
+        end += 1;
+    }
+    end
+}

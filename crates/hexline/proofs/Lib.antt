@@ -1,0 +1,6 @@
+pub mod Text
+pub mod Packets
+pub mod Cutting
+pub mod Serving
+pub mod Turns
+pub mod Streaming

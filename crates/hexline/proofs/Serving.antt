@@ -1,0 +1,110 @@
+-- From the terminal's answer to what is said of a packet and of a line.
+-- Assumes nothing.
+use mathlib.Core.Path.{_≡_, refl, ap, ap₂, _∙_}
+use mathlib.Core.Bool.{true, false}
+use mathlib.Core.List.{List}
+use Prim.Native.Nat.{ℕ, _+_, _≤_}
+use native.Mathlib.Omega.{arith}
+use lib.ListN.{length, take, replicate, length-append}
+use Rattle.octets.specs.Copy.{laid}
+use Rattle.octets.proofs.Laid.{laid-length, laid-front, laid-append}
+use Rattle.checks.proofs.Table.{by-test}
+use Rattle.map.specs.declared.Profile.{Profile}
+use Rattle.terminal.specs.declared.Outcome.{Outcome}
+use Rattle.terminal.specs.Outcome.{Input, verdictOn, reportsOn, octetsDue, outcomeOf, outAfter, Answered}
+use Rattle.hexline.specs.declared.Written.{Written}
+use Rattle.hexline.specs.Line.{Machine, inputFor, isPacket, packetOf, frameLines, closing, closingOf, packetAnswer, packetAfter, lineAnswer, lineAfter}
+use Rattle.characters.specs.Digits.{textOf}
+use Rattle.hexline.specs.Cut.{cut}
+use Rattle.hexline.specs.Said.{Said}
+use Rattle.hexline.proofs.Packets.{packet-facts, packet-length}
+use Rattle.hexline.proofs.Cutting.{cut-frames, closing-length, frame-lines-most}
+use Rattle.terminal.proofs.Due.{due-bounded, due-fits}
+
+-- What stands at the front of the output buffer after an answer.
+pub record Front (i : Input) (r : Outcome) (out : List ℕ) : Type 0 where
+  pub small : r .written ≤ 4072
+  pub inside : r .written ≤ length out
+  pub frames : take (r .written) out ≡ octetsDue i
+
+pub answered-front : (i : Input) (r : Outcome) (store out : List ℕ) → length (i .time) ≡ 6 → Answered i r store out → Front i r out
+unfolding outcomeOf outAfter
+answered-front i r store out six a =
+    let written : r .written ≡ length (octetsDue i) = ap (λ (o : Outcome). o .written) (a .outcome-is) in
+    record {
+      small = omega (arith, written, due-bounded i six);
+      inside = omega (arith, written, due-fits i six, ap length (a .out-is), laid-length (i .out) 0 (octetsDue i));
+      frames = ap₂ (λ (n : ℕ) (o : List ℕ). take n o) written (a .out-is) ∙ laid-front (i .out) (octetsDue i) (due-fits i six);
+    }
+
+module _ (p : Profile) (m : Machine) (packet : List ℕ) where
+  lines-due : cut (octetsDue (inputFor p m packet)) ≡ frameLines (p .pid) (replicate 6 0) (m .state) (reportsOn (inputFor p m packet))
+  unfolding octetsDue
+  lines-due = cut-frames (p .pid) (replicate 6 0) refl (m .state) (reportsOn (inputFor p m packet)) (due-bounded (inputFor p m packet) refl)
+
+  -- An answer has at most 16,384 characters.
+  pub packet-answer-most : length (packetAnswer p m packet) ≤ 16384
+  unfolding packetAnswer octetsDue
+  packet-answer-most =
+      let i : Input = inputFor p m packet in
+      omega
+      (arith, length-append (frameLines (p .pid) (replicate 6 0) (m .state) (reportsOn i)) (closingOf (verdictOn i)), closing-length (verdictOn i), frame-lines-most (p .pid) (replicate 6 0) refl (m .state) (reportsOn i), due-bounded i refl)
+
+  -- The frames written one a line, and the closing line behind them.
+  pub packet-said : (at : ℕ) (text : List ℕ) (r : Outcome) (store out t₁ t₂ : List ℕ) (end last : ℕ)
+      → Answered (inputFor p m packet) r store out
+      → end ≡ at + length (cut (take (r .written) out)) → t₁ ≡ laid text at (cut (take (r .written) out))
+      → last ≡ end + 5 → t₂ ≡ laid t₁ end (closingOf (r .verdict))
+      → Said (packetAnswer p m packet) (packetAfter p m packet) at text (record { at = last; state = r .state }) store out t₂
+  unfolding packetAnswer packetAfter outcomeOf
+  packet-said at text r store out t₁ t₂ end last a e f g h =
+      let i : Input = inputFor p m packet in
+      let front = answered-front i r store out refl a in
+      let lines : List ℕ = frameLines (p .pid) (replicate 6 0) (m .state) (reportsOn i) in
+      let due : cut (take (r .written) out) ≡ lines = ap cut (front .frames) ∙ lines-due in
+      let v : closingOf (r .verdict) ≡ closingOf (verdictOn i) = ap (λ (o : Outcome). closingOf (o .verdict)) (a .outcome-is) in
+      let place : end ≡ at + length lines = e ∙ ap (λ (l : List ℕ). at + length l) due in
+      record {
+        at-is = omega (arith, g, place, length-append lines (closingOf (verdictOn i)), closing-length (verdictOn i));
+        state-is = ap (λ (o : Outcome). o .state) (a .outcome-is);
+        store-is = a .store-is;
+        out-is = a .out-is;
+        text-is =
+            h
+            ∙ ap₂ (λ (d : List ℕ) (n : ℕ). laid d n (closingOf (r .verdict))) (f ∙ ap (λ (l : List ℕ). laid text at l) due) place
+            ∙ ap (λ (l : List ℕ). laid (laid text at lines) (at + length lines) l) v
+            ∙ laid-append text at lines (closingOf (verdictOn i));
+      }
+
+-- A packet line's octets, at the front of the buffer that they were written to.
+pub record Decoded (line packet : List ℕ) (count : ℕ) : Type 0 where
+  pub inside : count ≤ length packet
+  pub octets : take count packet ≡ packetOf line
+
+pub decoded : (line buffer packet : List ℕ) (count : ℕ) → isPacket line ≡ true → length buffer ≡ 2048 → count ≡ length (packetOf line)
+    → packet ≡ laid buffer 0 (packetOf line) → Decoded line packet count
+decoded line buffer packet count good room e f =
+    let few : length (packetOf line) ≤ length buffer = omega (arith, packet-length line, packet-facts line good .2) in
+    record {
+      inside = omega (arith, e, few, ap length f, laid-length buffer 0 (packetOf line));
+      octets = ap₂ (λ (n : ℕ) (o : List ℕ). take n o) e f ∙ laid-front buffer (packetOf line) few;
+    }
+
+module _ (p : Profile) (m : Machine) (line : List ℕ) where
+  -- 0200 and nothing changed.
+  pub line-refused : (at end : ℕ) (text t : List ℕ) → isPacket line ≡ false → end ≡ at + 5 → t ≡ laid text at (closing 2 0)
+      → Said (lineAnswer p m line) (lineAfter p m line) at text (record { at = end; state = m .state }) (m .store) (m .out) t
+  unfolding lineAnswer lineAfter textOf
+  line-refused at end text t bad e f = rw bad (record { at-is = e; state-is = refl; store-is = refl; out-is = refl; text-is = f })
+
+  -- What is said of the packet is said of the line.
+  pub line-served : (packet : List ℕ) (at : ℕ) (text : List ℕ) (r : Written) (store out t : List ℕ) → isPacket line ≡ true → packet ≡ packetOf line
+      → Said (packetAnswer p m packet) (packetAfter p m packet) at text r store out t
+      → Said (lineAnswer p m line) (lineAfter p m line) at text r store out t
+  unfolding lineAnswer lineAfter
+  line-served packet at text r store out t good e s = rw (good, ← e) s
+
+  pub line-answer-most : length (lineAnswer p m line) ≤ 16384
+  unfolding lineAnswer textOf
+  line-answer-most =
+      by-test (isPacket line) (λ t. rw t (packet-answer-most p m (packetOf line))) (λ e. rw e (omega arith))

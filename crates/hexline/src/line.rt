@@ -1,0 +1,182 @@
+// One line: whether it is a packet line, its packet, and what it is answered.
+use super::Written;
+use checks::Verdict;
+use decide::State;
+use map::Profile;
+ghost use mathlib.Core.Path.{_≡_};
+ghost use mathlib.Core.Bool.{true};
+ghost use mathlib.Core.List.{List, [], _∷_, _++_};
+ghost use Prim.Native.Nat.{_+_, _*_, _<_, _≤_, _^_, min};
+ghost use lib.ListN.{length, take, drop};
+ghost use Rattle.octets.specs.Copy.{laid};
+ghost use Rattle.hexline.specs.Line.{allDigits, isPacket, packetOf, closing, closingOf, packetAnswer, packetAfter, lineAnswer, lineAfter};
+ghost use Rattle.hexline.specs.Cut.{frameSize, lineOf, cut};
+ghost use Rattle.hexline.specs.Said.{Said};
+
+// Whether every character of a line is a digit.
+fn all_digits(line: &[u8]) -> bool
+    ensures { λ r. ⌜ r ≡ allDigits (now (line .entry)) ⌝ }
+{
+    let mut i = 0;
+    while i < line.len() {
+        let v = characters::value(line[i]);
+        if 16 <= v {
+            return false;
+        }
+        i += 1;
+    }
+    true
+}
+
+// Whether a line is a packet line: digits only, an even count of them, and at most 4,096.
+pub fn is_packet(line: &[u8]) -> bool
+    ensures { λ r. ⌜ r ≡ isPacket (now (line .entry)) ⌝ }
+{
+    if 4096 < line.len() {
+        return false;
+    }
+    let odd = line.len() % 2;
+    if odd != 0 {
+        return false;
+    }
+    all_digits(line)
+}
+
+// Writes the octets of a packet line at the front of a buffer, and answers how many they are.
+fn decode(line: &[u8], packet: &mut [u8]) -> usize
+    requires { ⌜ (isPacket (now line) ≡ true) × (length (now packet) ≡ 2048) ⌝ }
+    ensures { λ r. ⌜ (r ≡ length (packetOf (now (line .entry)))) × (now (packet .exit) ≡ laid (now (packet .entry)) 0 (packetOf (now (line .entry)))) ⌝ }
+{
+    let count = line.len() / 2;
+    let mut i = 0;
+    while i < count {
+        let high = characters::value(line[2 * i]);
+        let low = characters::value(line[2 * i + 1]);
+        packet[i] = high * 16 + low;
+        i += 1;
+    }
+    count
+}
+
+// Writes a line of octets, and answers the place behind it.
+fn put_line(text: &mut [u8], at: usize, octets: &[u8]) -> usize
+    requires { ⌜ at + (2 * length (now octets) + 1) < 2 ^ 64 ⌝ }
+    ensures { λ r. ⌜ (r ≡ at + (2 * length (now (octets .entry)) + 1)) × (now (text .exit) ≡ laid (now (text .entry)) at (lineOf (now (octets .entry)))) ⌝ }
+{
+    let end = super::hex::put_text(text, at, octets);
+    super::hex::put_character(text, end, 10);
+    end + 1
+}
+
+// Where the frame ends that begins at a place of some frames: the length field is its octets minus 7.
+fn frame_end(frames: &[u8], from: usize) -> usize
+    requires { ⌜ from < length (now frames) ⌝ }
+    ensures { λ r. ⌜ r ≡ min (from + frameSize (drop from (now (frames .entry)))) (length (now (frames .entry))) ⌝ }
+{
+    let left = frames.len() - from;
+    if left <= 7 {
+        return frames.len();
+    }
+    let size = (octets::numbers::word16_at(frames, from + 4) as usize) + 7;
+    if size <= left {
+        from + size
+    } else {
+        frames.len()
+    }
+}
+
+// Writes frames one a line, and answers the place behind them.
+fn put_frames(frames: &[u8], text: &mut [u8], at: usize) -> usize
+    requires { ⌜ at + 3 * length (now frames) < 2 ^ 64 ⌝ }
+    ensures { λ r. ⌜ (r ≡ at + length (cut (now (frames .entry)))) × (now (text .exit) ≡ laid (now (text .entry)) at (cut (now (frames .entry)))) ⌝ }
+{
+    let mut from = 0;
+    let mut to = at;
+    while from < frames.len() {
+        let end = frame_end(frames, from);
+        to = put_line(text, to, &frames[from..end]);
+        from = end;
+    }
+    to
+}
+
+// Writes a closing line, and answers the place behind it.
+fn put_closing(kind: u8, number: u8, text: &mut [u8], at: usize) -> usize
+    requires { ⌜ at + 5 < 2 ^ 64 ⌝ }
+    ensures { λ r. ⌜ (r ≡ at + 5) × (now (text .exit) ≡ laid (now (text .entry)) at (closing kind number)) ⌝ }
+{
+    put_line(text, at, &[kind, number])
+}
+
+// Writes the closing line of a verdict: 0000 accepted, or 01 and the number as one octet.
+fn put_verdict(v: Verdict, text: &mut [u8], at: usize) -> usize
+    requires { ⌜ at + 5 < 2 ^ 64 ⌝ }
+    ensures { λ r. ⌜ (r ≡ at + 5) × (now (text .exit) ≡ laid (now (text .entry)) at (closingOf v)) ⌝ }
+{
+    let number = checks::number(v) as u8;
+    if checks::accepted(v) {
+        return put_closing(0, number, text, at);
+    }
+    put_closing(1, number, text, at)
+}
+
+// Answers a packet: its frames one a line, then the closing line.
+fn serve(
+    profile: Profile,
+    state: State,
+    packet: &[u8],
+    store: &mut [u8],
+    out: &mut [u8],
+    text: &mut [u8],
+    at: usize,
+) -> Written
+    requires { ⌜ at + 16384 < 2 ^ 64 ⌝ }
+    ensures { λ r. ⌜ Said (packetAnswer profile (record { state = state; store = now (store .entry); out = now (out .entry) }) (now (packet .entry))) (packetAfter profile (record { state = state; store = now (store .entry); out = now (out .entry) }) (now (packet .entry))) at (now (text .entry)) r (now (store .exit)) (now (out .exit)) (now (text .exit)) ⌝ }
+{
+    let outcome = terminal::answer(profile, state, [0; 6], packet, store, out);
+    let written = outcome.written;
+    let end = put_frames(&out[..written], text, at);
+    let verdict = outcome.verdict;
+    let last = put_verdict(verdict, text, end);
+    let next = outcome.state;
+    Written {
+        at: last,
+        state: next,
+    }
+}
+
+// Answers a line into a text from a place on: 0200 where it is no packet line.
+pub(crate) fn answer_at(
+    profile: Profile,
+    state: State,
+    line: &[u8],
+    store: &mut [u8],
+    out: &mut [u8],
+    text: &mut [u8],
+    at: usize,
+) -> Written
+    requires { ⌜ at + 16384 < 2 ^ 64 ⌝ }
+    ensures { λ r. ⌜ Said (lineAnswer profile (record { state = state; store = now (store .entry); out = now (out .entry) }) (now (line .entry))) (lineAfter profile (record { state = state; store = now (store .entry); out = now (out .entry) }) (now (line .entry))) at (now (text .entry)) r (now (store .exit)) (now (out .exit)) (now (text .exit)) ⌝ }
+{
+    if !is_packet(line) {
+        let end = put_closing(2, 0, text, at);
+        return Written { at: end, state };
+    }
+    let mut packet = [0u8; 2048];
+    let count = decode(line, &mut packet);
+    serve(profile, state, &packet[..count], store, out, text, at)
+}
+
+// Answers a line at the front of a text. What would stand past the text's end is dropped.
+pub fn answer(
+    profile: Profile,
+    state: State,
+    line: &[u8],
+    store: &mut [u8],
+    out: &mut [u8],
+    text: &mut [u8],
+) -> Written
+    ensures { λ r. ⌜ Said (lineAnswer profile (record { state = state; store = now (store .entry); out = now (out .entry) }) (now (line .entry))) (lineAfter profile (record { state = state; store = now (store .entry); out = now (out .entry) }) (now (line .entry))) 0 (now (text .entry)) r (now (store .exit)) (now (out .exit)) (now (text .exit)) ⌝ }
+{
+    answer_at(profile, state, line, store, out, text, 0)
+}

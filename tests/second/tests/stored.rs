@@ -1,0 +1,28 @@
+//! The input and output that are stored beside the first implementation's programs: the output is
+//! what this implementation writes today.
+
+use std::fs;
+use std::io::{self, Read, Write};
+use std::path::Path;
+
+use second::{cases, hexline};
+
+fn check(program: &str, run: fn(&mut dyn Read, &mut dyn Write) -> io::Result<()>, lines: usize) {
+    let folder = Path::new(env!("CARGO_MANIFEST_DIR")).join("../../crates").join(program);
+    let input = fs::read(folder.join("stdin")).expect("its input is stored");
+    let stored = fs::read(folder.join("stdout")).expect("its output is stored");
+    assert!(input.split(|octet| *octet == b'\n').count() >= lines, "{program}: too few lines are stored");
+    let mut output = Vec::new();
+    run(&mut input.as_slice(), &mut output).expect("a vector takes everything");
+    assert!(output == stored, "{program}: the stored output is not what is written today");
+}
+
+#[test]
+fn of_line() {
+    check("line", hexline::run, 1_000);
+}
+
+#[test]
+fn of_cases() {
+    check("cases", cases::run, 1_000);
+}
