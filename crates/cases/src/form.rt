@@ -3,7 +3,7 @@ use crate::line;
 use crate::line::Line;
 
 // The letter of a line that is a command with the octets that it takes, and 0 for any other line.
-pub fn command(l: Line, given: &[u8]) -> u8 {
+pub(crate) fn command(l: Line, given: &[u8]) -> u8 {
     if !line::is_whole(l) {
         return 0;
     }

@@ -19,7 +19,7 @@ pub struct Line {
 pub type Octets = [u8; 70000];
 
 // A line of which nothing came yet.
-pub fn start() -> Line
+pub(crate) fn start() -> Line
     ensures { λ r. ⌜ r .seen ≡ 0 ⌝ }
 {
     Line {
@@ -31,7 +31,7 @@ pub fn start() -> Line
 }
 
 // The line with some characters more; the octets of its digits are laid into `octets`.
-pub fn fill(line: Line, characters: &[u8], octets: &mut Octets) -> Line {
+pub(crate) fn fill(line: Line, characters: &[u8], octets: &mut Octets) -> Line {
     let mut l = line;
     let mut i = 0;
     while i < characters.len() {
@@ -106,7 +106,7 @@ fn advanced(line: Line, high: u8) -> Line
 }
 
 // Whether the line is a letter alone, or a letter, a space and whole octets.
-pub fn is_whole(line: Line) -> bool {
+pub(crate) fn is_whole(line: Line) -> bool {
     if line.bad {
         return false;
     }
@@ -120,7 +120,7 @@ pub fn is_whole(line: Line) -> bool {
 }
 
 // The octets of a line that has the space.
-pub fn octets_of<'a>(line: Line, octets: &'a [u8]) -> &'a [u8] {
+pub(crate) fn octets_of<'a>(line: Line, octets: &'a [u8]) -> &'a [u8] {
     let pairs = line.seen / 2;
     if pairs == 0 {
         return octets::copy::part(octets, 0, 0);

@@ -10,7 +10,7 @@ use crate::text;
 use crate::text::Buffer;
 
 // Does what the line says, or answers that it is bad, and begins the next.
-pub fn serve(
+pub(crate) fn serve(
     s: Session,
     octets: &line::Octets,
     store: &mut Store,

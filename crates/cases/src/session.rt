@@ -23,7 +23,7 @@ pub type Store = [u8; 65600];
 pub type Out = [u8; 8192];
 
 // The start: the line program's profile, 128 octets of store, an output buffer of 4,096.
-pub fn start() -> Session {
+pub(crate) fn start() -> Session {
     Session {
         profile: first_profile(),
         state: State {
@@ -76,33 +76,33 @@ fn no_areas() -> [Area; 8] {
 }
 
 // The session with another text.
-pub fn with_text(s: Session, text: Text) -> Session {
+pub(crate) fn with_text(s: Session, text: Text) -> Session {
     let mut next = s;
     next.text = text;
     next
 }
 
 // The session with another line.
-pub fn with_line(s: Session, line: Line) -> Session {
+pub(crate) fn with_line(s: Session, line: Line) -> Session {
     let mut next = s;
     next.line = line;
     next
 }
 
 // The session with other counts.
-pub fn with_state(s: Session, state: State) -> Session {
+pub(crate) fn with_state(s: Session, state: State) -> Session {
     let mut next = s;
     next.state = state;
     next
 }
 
 // The octet at a place, and 0 past the end.
-pub fn one(octets: &[u8], at: usize) -> u8 {
+pub(crate) fn one(octets: &[u8], at: usize) -> u8 {
     octets::numbers::octet_at(octets, at) as u8
 }
 
 // P: PID, flags, area count, areas.
-pub fn set_profile(s: Session, given: &[u8]) -> Session {
+pub(crate) fn set_profile(s: Session, given: &[u8]) -> Session {
     let flags = one(given, 1);
     let areas = areas_in(given);
     let profile = Profile {
@@ -146,14 +146,14 @@ fn area_of(octets: &[u8]) -> Area {
 }
 
 // S: the store.
-pub fn set_store(s: Session, given: &[u8], store: &mut Store) -> Session {
+pub(crate) fn set_store(s: Session, given: &[u8], store: &mut Store) -> Session {
     let mut next = s;
     next.stored = octets::copy::put(store, 0, given);
     next
 }
 
 // K: the counts of category 1 and 9.
-pub fn set_counts(s: Session, given: &[u8]) -> Session {
+pub(crate) fn set_counts(s: Session, given: &[u8]) -> Session {
     let state = State {
         reports: octets::numbers::word16_at(given, 0),
         services: octets::numbers::word16_at(given, 2),
@@ -162,7 +162,7 @@ pub fn set_counts(s: Session, given: &[u8]) -> Session {
 }
 
 // T: the time.
-pub fn set_time(s: Session, given: &[u8]) -> Session {
+pub(crate) fn set_time(s: Session, given: &[u8]) -> Session {
     let time = [
         one(given, 0),
         one(given, 1),
@@ -177,7 +177,7 @@ pub fn set_time(s: Session, given: &[u8]) -> Session {
 }
 
 // B: the output buffer's length, and the octet that fills it.
-pub fn set_buffer(s: Session, given: &[u8], out: &mut Out) -> Session {
+pub(crate) fn set_buffer(s: Session, given: &[u8], out: &mut Out) -> Session {
     let length = octets::numbers::word16_at(given, 0) as usize;
     fill(out, length, one(given, 2));
     let mut next = s;

@@ -15,7 +15,7 @@ use terminal::Outcome;
 ghost use Prim.Native.Nat.{_≤_};
 
 // X: the terminal answers a packet.
-pub fn answer(
+pub(crate) fn answer(
     s: Session,
     packet: &[u8],
     store: &mut Store,
@@ -83,13 +83,13 @@ fn show_code(t: Text, accepted: bool, number: u16, buffer: &mut Buffer) -> Text 
 }
 
 // O and M: the front of the output buffer or the store.
-pub fn front(s: Session, octets: &[u8], length: usize, buffer: &mut Buffer) -> Session {
+pub(crate) fn front(s: Session, octets: &[u8], length: usize, buffer: &mut Buffer) -> Session {
     let t = text::line_of(s.text, buffer, octets::copy::part(octets, 0, length));
     session::with_text(s, t)
 }
 
 // R: the reader reads a packet.
-pub fn read(s: Session, packet: &[u8], buffer: &mut Buffer) -> Session {
+pub(crate) fn read(s: Session, packet: &[u8], buffer: &mut Buffer) -> Session {
     let reading = tc::reader::read(packet);
     let v = reading.verdict;
     let verdict = show_verdict(s.text, v, buffer);
@@ -115,7 +115,7 @@ fn show_header(t: Text, f: Fields, buffer: &mut Buffer) -> Text {
 }
 
 // W: the writer writes a packet into a buffer of the length asked for, each octet EE before.
-pub fn write(s: Session, given: &[u8], buffer: &mut Buffer) -> Session {
+pub(crate) fn write(s: Session, given: &[u8], buffer: &mut Buffer) -> Session {
     let mut packet = [0xEEu8; 65536];
     let room = octets::numbers::word16_at(given, 6) as usize;
     let written = written_into(given, &mut packet, room);
@@ -167,7 +167,7 @@ fn show_length(t: Text, accepted: bool, number: u16, length: usize, buffer: &mut
 }
 
 // C: the CRC of some octets.
-pub fn control(s: Session, given: &[u8], buffer: &mut Buffer) -> Session {
+pub(crate) fn control(s: Session, given: &[u8], buffer: &mut Buffer) -> Session {
     let first = text::number(s.text, buffer, crc::crc(given));
     let t = text::put(first, buffer, b'\n');
     session::with_text(s, t)

@@ -12,7 +12,7 @@ pub struct Text {
 pub type Buffer = [u8; 65536];
 
 // Writes out what waits.
-pub fn flush(t: Text, buffer: &Buffer) -> Text {
+pub(crate) fn flush(t: Text, buffer: &Buffer) -> Text {
     let open = write(t.open, octets::copy::part(buffer, 0, t.at));
     Text { at: 0, open }
 }
@@ -26,7 +26,7 @@ fn write(open: bool, octets: &[u8]) -> bool {
 }
 
 // Adds a character.
-pub fn put(t: Text, buffer: &mut Buffer, c: u8) -> Text {
+pub(crate) fn put(t: Text, buffer: &mut Buffer, c: u8) -> Text {
     let at = t.at;
     if at < buffer.len() {
         buffer[at] = c;
@@ -41,19 +41,19 @@ pub fn put(t: Text, buffer: &mut Buffer, c: u8) -> Text {
 }
 
 // Adds an octet: its two digits.
-pub fn octet(t: Text, buffer: &mut Buffer, x: u8) -> Text {
+pub(crate) fn octet(t: Text, buffer: &mut Buffer, x: u8) -> Text {
     let first = put(t, buffer, characters::digit(x / 16));
     put(first, buffer, characters::digit(x))
 }
 
 // Adds a number of 16 bits: its four digits.
-pub fn number(t: Text, buffer: &mut Buffer, x: u16) -> Text {
+pub(crate) fn number(t: Text, buffer: &mut Buffer, x: u16) -> Text {
     let first = octet(t, buffer, (x / 256) as u8);
     octet(first, buffer, (x % 256) as u8)
 }
 
 // Adds some octets.
-pub fn octets(t: Text, buffer: &mut Buffer, all: &[u8]) -> Text {
+pub(crate) fn octets(t: Text, buffer: &mut Buffer, all: &[u8]) -> Text {
     let mut next = t;
     let mut i = 0;
     while i < all.len() {
@@ -64,31 +64,31 @@ pub fn octets(t: Text, buffer: &mut Buffer, all: &[u8]) -> Text {
 }
 
 // Adds a space and a number of 16 bits.
-pub fn next_number(t: Text, buffer: &mut Buffer, x: u16) -> Text {
+pub(crate) fn next_number(t: Text, buffer: &mut Buffer, x: u16) -> Text {
     let first = put(t, buffer, b' ');
     number(first, buffer, x)
 }
 
 // Adds a space and an octet.
-pub fn next_octet(t: Text, buffer: &mut Buffer, x: u8) -> Text {
+pub(crate) fn next_octet(t: Text, buffer: &mut Buffer, x: u8) -> Text {
     let first = put(t, buffer, b' ');
     octet(first, buffer, x)
 }
 
 // Adds a space, some octets, and the newline.
-pub fn last_octets(t: Text, buffer: &mut Buffer, all: &[u8]) -> Text {
+pub(crate) fn last_octets(t: Text, buffer: &mut Buffer, all: &[u8]) -> Text {
     let first = put(t, buffer, b' ');
     line_of(first, buffer, all)
 }
 
 // Adds some octets and the newline.
-pub fn line_of(t: Text, buffer: &mut Buffer, all: &[u8]) -> Text {
+pub(crate) fn line_of(t: Text, buffer: &mut Buffer, all: &[u8]) -> Text {
     let first = octets(t, buffer, all);
     put(first, buffer, b'\n')
 }
 
 // Adds the line that answers a bad line.
-pub fn bad_line(t: Text, buffer: &mut Buffer) -> Text {
+pub(crate) fn bad_line(t: Text, buffer: &mut Buffer) -> Text {
     let first = number(t, buffer, 0x0200);
     put(first, buffer, b'\n')
 }

@@ -1,4 +1,5 @@
-//! The program `cases`: every row of its table, its example and its bad lines.
+//! The program `cases`: every row of its table, its example and its bad lines. Where CASES_COMMAND names
+//! another program, one word a line, it is held to the same.
 
 mod common;
 
@@ -7,9 +8,7 @@ use second::cases;
 const GOOD: &str = "X 185CC0000005191101000167\n";
 
 fn run(input: impl AsRef<[u8]>) -> String {
-    let mut output = Vec::new();
-    cases::run(&mut input.as_ref(), &mut output).expect("a vector takes everything");
-    String::from_utf8(output).expect("digits")
+    common::written("CASES_COMMAND", cases::run, input.as_ref())
 }
 
 fn x(packet: &[u8]) -> String {

@@ -1,8 +1,11 @@
-//! The line program: 01's example and its special cases, over a stream and as a process.
+//! The line program: 01's example and its special cases, over a stream and as a process. Where LINE_COMMAND
+//! names another program, one word a line, it is held to the same.
 
 mod common;
 
+use std::fs;
 use std::io::{BufRead, BufReader, Write};
+use std::path::Path;
 use std::process::{Child, Command, Stdio};
 use std::sync::mpsc;
 use std::thread;
@@ -18,9 +21,7 @@ const GOOD_ANSWER: &str = "0851C000000D00000000000000010100185CC000
 ";
 
 fn run(input: impl AsRef<[u8]>) -> String {
-    let mut output = Vec::new();
-    hexline::run(&mut input.as_ref(), &mut output).expect("a vector takes everything");
-    String::from_utf8(output).expect("digits")
+    common::written("LINE_COMMAND", hexline::run, input.as_ref())
 }
 
 #[test]
@@ -52,6 +53,9 @@ fn characters_that_are_no_digits() {
         format!("{GOOD} \n"),
         format!("\0{GOOD}\n"),
         format!("{GOOD}\0\n"),
+        format!("\t{GOOD}\n"),
+        format!("{GOOD}\x7F\n"),
+        format!("{GOOD}x\n"),
         "G0\n".into(),
         "0g\n".into(),
         "/:\n".into(),
@@ -125,12 +129,29 @@ fn a_stream_that_gives_one_octet_at_a_time() {
     assert_eq!(output, format!("{GOOD_ANSWER}012A\n0200\n0200\n").into_bytes());
 }
 
+fn command() -> Command {
+    common::command("LINE_COMMAND").unwrap_or_else(|| Command::new(env!("CARGO_BIN_EXE_line")))
+}
+
 fn start() -> Child {
-    Command::new(env!("CARGO_BIN_EXE_line"))
-        .stdin(Stdio::piped())
-        .stdout(Stdio::piped())
-        .spawn()
-        .expect("the line program starts")
+    command().stdin(Stdio::piped()).stdout(Stdio::piped()).spawn().expect("the line program starts")
+}
+
+#[test]
+fn input_in_pieces_through_a_pipe() {
+    let folder = Path::new(env!("CARGO_MANIFEST_DIR")).join("../../crates/line");
+    let input = fs::read(folder.join("stdin")).expect("its input is stored");
+    let output = fs::read(folder.join("stdout")).expect("its output is stored");
+    for size in [1, 7, 65_536] {
+        let pieces = input.chunks(size).map(<[u8]>::to_vec).collect();
+        assert!(common::piped(command(), pieces) == output, "pieces of {size}");
+    }
+}
+
+#[test]
+fn a_hundred_million_digits_without_a_newline() {
+    let pieces = vec![vec![b'0'; 1_000_000]; 100];
+    assert_eq!(common::piped(command(), pieces), b"0200\n");
 }
 
 #[test]

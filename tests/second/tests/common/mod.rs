@@ -1,6 +1,12 @@
-//! What the tests share: hexadecimal text, packets with their error control, a unit to send them to.
+//! What the tests share: programs to run, hexadecimal text, packets with their error control, a unit to
+//! send them to.
 
 #![allow(dead_code)]
+
+use std::env;
+use std::io::{self, Read, Write};
+use std::process::{Command, Stdio};
+use std::thread;
 
 use second::crc::crc;
 use second::hexline;
@@ -8,6 +14,42 @@ use second::map::{Area, Flags, Profile, Rights};
 use second::refusal::Refusal;
 use second::terminal::{self, Answer, Verdict};
 use second::tm::Counts;
+
+/// The command that the variable names, one word a line: another implementation's program, which is held to
+/// the same expectations. Nothing where the variable is not set.
+pub fn command(variable: &str) -> Option<Command> {
+    let words = env::var(variable).ok()?;
+    let mut words = words.lines();
+    let mut command = Command::new(words.next().expect("a command has a word"));
+    command.args(words);
+    Some(command)
+}
+
+/// What a program writes on the input: this implementation's, or that of the command that the variable names.
+pub fn written(variable: &str, run: fn(&mut dyn Read, &mut dyn Write) -> io::Result<()>, input: &[u8]) -> String {
+    let output = match command(variable) {
+        None => {
+            let mut output = Vec::new();
+            run(&mut &input[..], &mut output).expect("a vector takes everything");
+            output
+        }
+        Some(command) => piped(command, vec![input.to_vec()]),
+    };
+    String::from_utf8(output).expect("digits")
+}
+
+/// What a command writes on the parts of an input, sent through a pipe one after another.
+pub fn piped(mut command: Command, parts: Vec<Vec<u8>>) -> Vec<u8> {
+    command.stdin(Stdio::piped()).stdout(Stdio::piped()).stderr(Stdio::piped());
+    let mut child = command.spawn().expect("the program starts");
+    let mut input = child.stdin.take().expect("its input");
+    let sender = thread::spawn(move || parts.iter().try_for_each(|part| input.write_all(part)));
+    let done = child.wait_with_output().expect("the program ends");
+    sender.join().expect("the sender ends").expect("the program reads all");
+    assert!(done.status.success(), "{}", done.status);
+    assert!(done.stderr.is_empty(), "{}", String::from_utf8_lossy(&done.stderr));
+    done.stdout
+}
 
 /// The octets of hexadecimal text; spaces may stand anywhere.
 pub fn hex(text: &str) -> Vec<u8> {
