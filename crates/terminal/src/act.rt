@@ -118,7 +118,7 @@ fn report_refusal(
     ensures { λ r. ⌜ Did 24 sender p r (now (out .entry)) (now (out .exit)) (refusal v (now (packet .entry)) ∷ []) ⌝ }
 {
     let s = stamp(sender, p.state, 1, 2);
-    let octets = tm::put_failure(
+    let size = tm::put_failure(
         out,
         p.at,
         s,
@@ -126,7 +126,7 @@ fn report_refusal(
         checks::number(v),
         checks::detail(v),
     );
-    advance(p, octets, 1)
+    advance(p, size, 1)
 }
 
 // (17,2).
