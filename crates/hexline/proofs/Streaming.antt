@@ -5,7 +5,7 @@ use mathlib.Core.Bool.{Bool, true, false, not, _&&_, false≢true}
 use mathlib.Core.List.{List, [], _∷_, _++_, append-assoc, append-nil}
 use Prim.Native.Nat.{ℕ, zero, suc, _+_, _-_, _≤_, _<_}
 use native.Mathlib.Omega.{arith}
-use lib.ListN.{length, take, length-append, length-take}
+use lib.ListN.{length, take, replicate, length-append, length-take}
 use lib.Seq.{take-all}
 use lib.Dec.{eqb, leb}
 use borrow.Author.Tests.{not-true, leb-true, eqb-true, le-leb}
@@ -75,6 +75,17 @@ lines-open c [] t h =
 lines-open c (d ∷ u) t h =
     let s = both (not (eqb c newline)) (isOpen (d ∷ u)) h in
     ap₂ (λ (b : Bool) (ls : List (List ℕ)). before b c ls) (not-true (eqb c newline) (s .0)) (lines-open d u t (s .1))
+
+-- Empty parts add nothing.
+joined-none : (n : ℕ) → joined (replicate n []) ≡ []
+unfolding joined
+joined-none zero = refl
+joined-none (suc n) = joined-none n
+
+joined-more : (parts : List (List ℕ)) (n : ℕ) → joined (parts ++ replicate n []) ≡ joined parts
+unfolding joined
+joined-more [] n = joined-none n
+joined-more (part ∷ parts) n = ap (λ (r : List ℕ). part ++ r) (joined-more parts n)
 
 module _ (p : Profile) where
   -- A whole line in front.
@@ -189,6 +200,11 @@ module _ (p : Profile) where
       (λ k. rw (e, k) (omega arith)))
       (λ e. rw e (said-most room m (u ++ c ∷ []) s))
 
+  -- An open line that is kept is one.
+  kept-open : (room : ℕ) (m : Machine) (s : List ℕ) → turnOf p room m s .«open» ≡ true → isOpen (keptOf (turnOf p room m s)) ≡ true
+  unfolding isOpen
+  kept-open room m s o = rw o (open-take openMost (turnOf p room m s .left) (left-open room m [] s refl o))
+
   -- ---- laws for those who feed
 
   -- Whatever follows, what is said, and then the output on what is kept, is the output on all of it.
@@ -234,7 +250,7 @@ module _ (p : Profile) where
   turns-open room «open» m left (part ∷ parts) h o =
       let t : Turn = turnOf p room m (left ++ part) in
       turns-open room (t .«open») (t .after) (keptOf t) parts
-      (λ k. rw k (open-take openMost (t .left) (left-open room m [] (left ++ part) refl k))) o
+      (kept-open room m (left ++ part)) o
 
   -- Where no whole line is left in the end, what is said, and then the answer to the last line, is the whole output.
   pub turns-whole : (room : ℕ) (m : Machine) (parts : List (List ℕ))
@@ -244,3 +260,54 @@ module _ (p : Profile) where
       let t : Turn = turnsOf p room true m [] parts in
       ap (λ (r : List ℕ). t .said ++ r) (sym (output-last (t .after) (t .left) (turns-open room true m [] parts (λ h. refl) o)))
       ∙ turns-said room true m [] parts
+
+  -- ---- turns without more input
+
+  -- An open line stays one.
+  open-from : (room : ℕ) (m : Machine) (u s : List ℕ) → isOpen s ≡ true → turnFrom p room m u s .«open» ≡ true
+  unfolding turnFrom isOpen
+  open-from room m u [] h = refl
+  open-from room m u (c ∷ s) h =
+      let b = both (not (eqb c newline)) (isOpen s) h in
+      rw (not-true (eqb c newline) (b .0)) (open-from room m (u ++ c ∷ []) s (b .1))
+
+  -- What is kept is no more than there was.
+  kept-most : (room : ℕ) (m : Machine) (s : List ℕ) → length (keptOf (turnOf p room m s)) ≤ length s
+  kept-most room m s =
+      let t : Turn = turnOf p room m s in
+      by-test (t .«open»)
+      (λ o. rw o (omega (arith, length-take openMost (t .left), left-most room m [] s)))
+      (λ o. rw o (omega (arith, left-most room m [] s)))
+
+  stays-open : (room n : ℕ) («open» : Bool) (m : Machine) (left : List ℕ) → «open» ≡ true → isOpen left ≡ true → turnsOf p room «open» m left (replicate n []) .«open» ≡ true
+  unfolding turnsOf
+  stays-open room zero «open» m left o h = o
+  stays-open room (suc n) «open» m left o h =
+      let t : Turn = turnOf p room m (left ++ []) in
+      let k : t .«open» ≡ true = open-from room m [] (left ++ []) (ap isOpen (append-nil left) ∙ h) in
+      stays-open room n (t .«open») (t .after) (keptOf t) k (kept-open room m (left ++ []) k)
+
+  -- Turns without more input end with no whole line left: there are no more of them than characters.
+  drained : (room n : ℕ) («open» : Bool) (m : Machine) (left : List ℕ) → answerRoom ≤ room → length left < n → turnsOf p room «open» m left (replicate n []) .«open» ≡ true
+  unfolding turnsOf
+  drained room zero «open» m left r h = absurd (omega arith)
+  drained room (suc n) «open» m left r h =
+      let t : Turn = turnOf p room m (left ++ []) in
+      by-test (t .«open»)
+      (λ o. stays-open room n (t .«open») (t .after) (keptOf t) o (kept-open room m (left ++ []) o))
+      (λ o. drained room n (t .«open») (t .after) (keptOf t) r (omega (arith, turn-less room m (left ++ []) r o, length-append left [])))
+
+  ended : (room n : ℕ) («open» : Bool) (m : Machine) (left : List ℕ) (parts : List (List ℕ)) → answerRoom ≤ room → length left + length (joined parts) < n
+      → turnsOf p room «open» m left (parts ++ replicate n []) .«open» ≡ true
+  unfolding turnsOf joined
+  ended room n «open» m left [] r h = drained room n «open» m left r (omega arith)
+  ended room n «open» m left (part ∷ parts) r h =
+      let t : Turn = turnOf p room m (left ++ part) in
+      ended room n (t .«open») (t .after) (keptOf t) parts r
+      (omega (arith, kept-most room m (left ++ part), length-append left part, length-append part (joined parts)))
+
+  -- However an input is divided: what is said of its parts in turn, and then in turns without more input until no whole line is left, and then of the last line, is the output on the whole.
+  pub stream-whole : (room n : ℕ) (m : Machine) (parts : List (List ℕ)) → answerRoom ≤ room → length (joined parts) < n
+      → (let t : Turn = turnsOf p room true m [] (parts ++ replicate n []) in t .said ++ lastAnswer p (t .after) (t .left) ≡ outputOf p m (joined parts))
+  stream-whole room n m parts r h =
+      turns-whole room m (parts ++ replicate n []) (ended room n true m [] parts r (omega arith)) ∙ ap (outputOf p m) (joined-more parts n)
