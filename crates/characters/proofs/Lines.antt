@@ -12,11 +12,12 @@ use lib.Dec.{eqb}
 use borrow.Author.Tests.{ne-eqb, eq-eqb}
 use Rattle.checks.proofs.Table.{by-test}
 
-line-newline : (c : ℕ) (s : List ℕ) → eqb c newline ≡ true → lineIn (c ∷ s) ≡ []
+-- A line that ends at once, and one that goes on.
+pub line-newline : (c : ℕ) (s : List ℕ) → eqb c newline ≡ true → lineIn (c ∷ s) ≡ []
 unfolding lineIn
 line-newline c s e = rw e refl
 
-line-other : (c : ℕ) (s : List ℕ) → eqb c newline ≡ false → lineIn (c ∷ s) ≡ c ∷ lineIn s
+pub line-other : (c : ℕ) (s : List ℕ) → eqb c newline ≡ false → lineIn (c ∷ s) ≡ c ∷ lineIn s
 unfolding lineIn
 line-other c s e = rw e refl
 

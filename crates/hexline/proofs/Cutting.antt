@@ -24,7 +24,7 @@ use Rattle.characters.specs.Digits.{textOf}
 use Rattle.hexline.specs.Line.{frameLines, closing, closingOf}
 use Rattle.characters.specs.Lines.{newline}
 use Rattle.hexline.specs.Cut.{frameSize, lineOf, cutLines, cut}
-use Rattle.hexline.proofs.Text.{text-length}
+use Rattle.characters.proofs.Digits.{text-length}
 
 pub line-length : (s : List ℕ) → length (lineOf s) ≡ 2 * length s + 1
 line-length s = length-append (textOf s) (newline ∷ []) ∙ ap (λ (n : ℕ). n + 1) (text-length s)

@@ -1,7 +1,7 @@
 -- Laws of the text of octets.
 -- Assumes nothing.
-use mathlib.Core.Path.{_≡_, refl, sym, ap, _∙_}
-use mathlib.Core.List.{List, [], _∷_}
+use mathlib.Core.Path.{_≡_, sym, ap, _∙_}
+use mathlib.Core.List.{List}
 use Prim.Native.Nat.{ℕ, _+_, _*_, _/_, _<_}
 use native.Mathlib.Numerals.{add-one}
 use native.Mathlib.Omega.{arith}
@@ -9,11 +9,6 @@ use lib.ListN.{length, getD, set, drop}
 use lib.Seq.{drop-cons, drop-length}
 use Rattle.octets.specs.Copy.{laid}
 use Rattle.characters.specs.Digits.{digitOf, textOf}
-
-pub text-length : (s : List ℕ) → length (textOf s) ≡ 2 * length s
-unfolding textOf
-text-length [] = refl
-text-length (x ∷ s) = let more : length (textOf s) ≡ 2 * length s = text-length s in omega arith
 
 -- The digits of one octet laid, and behind them the text of those that follow.
 pub laid-text-next : (d : List ℕ) (at : ℕ) (s : List ℕ) (i : ℕ) → i < length s

@@ -21,7 +21,7 @@ use Rattle.hexline.specs.Said.{Said}
 use Rattle.hexline.specs.Line.{Machine, lineAnswer, lineAfter}
 use Rattle.characters.specs.Lines.{newline}
 use Rattle.characters.specs.Lines.{lineIn}
-use Rattle.characters.proofs.Lines.{line-front}
+use Rattle.characters.proofs.Lines.{line-newline, line-other, line-front}
 use Rattle.hexline.specs.Feed.{Turn, waits, saying, answerRoom, turnFrom, turnOf, openMost, keptOf, lastAnswer, lastAfter, Lines, Feeds}
 use Rattle.hexline.proofs.Serving.{line-answer-most}
 
@@ -34,16 +34,16 @@ module _ (p : Profile) where
       ≡ cond (leb answerRoom room)
       (saying (lineAnswer p m (u ++ lineIn s)) (turnOf p (room - length (lineAnswer p m (u ++ lineIn s))) (lineAfter p m (u ++ lineIn s)) (drop (suc (length (lineIn s))) s)))
       (waits false m (u ++ s))
-  unfolding turnFrom lineIn
+  unfolding turnFrom
   next-from room m u [] h = absurd (omega arith)
   next-from room m u (c ∷ s) h =
       by-test (eqb c newline)
-      (λ e. rw (e, append-nil u) refl)
+      (λ e. rw (e, line-newline c s e, append-nil u) refl)
       (λ e.
-      let k : length (lineIn s) < length s = omega (arith, (rw e at h)) in
+      let k : length (lineIn s) < length s = omega (arith, (rw (line-other c s e) at h)) in
       let line : (u ++ c ∷ []) ++ lineIn s ≡ u ++ c ∷ lineIn s = append-assoc u (c ∷ []) (lineIn s) in
       let all : (u ++ c ∷ []) ++ s ≡ u ++ c ∷ s = append-assoc u (c ∷ []) s in
-      rw e
+      rw (e, line-other c s e)
       (next-from room m (u ++ c ∷ []) s k
       ∙ ap₂
       (λ (l r : List ℕ). cond (leb answerRoom room) (saying (lineAnswer p m l) (turnOf p (room - length (lineAnswer p m l)) (lineAfter p m l) (drop (suc (length (lineIn s))) s))) (waits false m r))
@@ -51,13 +51,13 @@ module _ (p : Profile) where
 
   -- No line has its newline.
   last-from : (room : ℕ) (m : Machine) (u s : List ℕ) → length s ≤ length (lineIn s) → turnFrom p room m u s ≡ waits true m (u ++ s)
-  unfolding turnFrom lineIn
+  unfolding turnFrom
   last-from room m u [] h = ap (λ (r : List ℕ). waits true m r) (sym (append-nil u))
   last-from room m u (c ∷ s) h =
       by-test (eqb c newline)
-      (λ e. absurd (omega (arith, (rw e at h))))
+      (λ e. absurd (omega (arith, (rw (line-newline c s e) at h))))
       (λ e.
-      let k : length s ≤ length (lineIn s) = omega (arith, (rw e at h)) in
+      let k : length s ≤ length (lineIn s) = omega (arith, (rw (line-other c s e) at h)) in
       rw e (last-from room m (u ++ c ∷ []) s k ∙ ap (λ (r : List ℕ). waits true m r) (append-assoc u (c ∷ []) s)))
 
   -- A whole line is answered where there is room.
@@ -286,8 +286,7 @@ module _ (p : Profile) (m : Machine) (input text : List ℕ) (have whole : ℕ) 
 
   -- An empty one.
   last-empty : (s : List ℕ) → length s ≡ 0 → Said (lastAnswer p m s) (lastAfter p m s) 0 text (record { at = 0; state = m .state }) (m .store) (m .out) text
-  unfolding laid
-  last-empty [] e = record { at-is = refl; state-is = refl; store-is = refl; out-is = refl; text-is = refl }
+  last-empty [] e = record { at-is = refl; state-is = refl; store-is = refl; out-is = refl; text-is = sym (laid-none text 0) }
   last-empty (c ∷ s) e = absurd (omega arith)
 
   pub last-none : whole ≡ 0 → Said (lastAnswer p m (take have input)) (lastAfter p m (take have input)) 0 text (record { at = 0; state = m .state }) (m .store) (m .out) text
