@@ -1,5 +1,3 @@
 pub mod Blocks
-pub mod Each
-pub mod First
 pub mod Walk
 pub mod WellFormed

@@ -1,136 +1,86 @@
--- Laws of the form of service 6 data: what well formed data gives, and when each detail is given.
+-- Laws of the form of service 6 data: what the tests of the head and of the blocks tell, and when each form is given.
 -- Assumes nothing.
-use mathlib.Core.Path.{_≡_, refl, sym, ap, _∙_, subst}
+use mathlib.Core.Path.{_≡_, refl, ap}
 use mathlib.Core.List.{List}
-use mathlib.Core.Bool.{true, false, _&&_}
-use mathlib.Core.Logic.{_⊎_, inl, inr, ⊎-elim}
-use Prim.Native.Nat.{ℕ, _≤_}
+use mathlib.Core.Bool.{true, false, _&&_, false≢true}
+use Prim.Native.Nat.{ℕ, _*_, _≤_}
 use native.Mathlib.Omega.{arith}
 use lib.ListN.{length}
 use lib.Dec.{leb, eqb}
-use borrow.Author.Tests.{le-leb, leb-true, eqb-true, eqb-false, eq-eqb, ne-eqb}
-use Rattle.checks.proofs.Table.{by-test}
-use Rattle.blocks.specs.declared.Action.{Action}
-use Rattle.blocks.specs.declared.Action.the-variants.{Load}
+use borrow.Author.Tests.{le-leb, leb-true, eqb-true, eq-eqb, ne-eqb}
+use Rattle.laws.specs.Each.{Each}
+use Rattle.laws.proofs.Each.{each-so, each-both}
+use Rattle.laws.proofs.First.{none-each}
+use Rattle.laws.proofs.Tests.{by-test, both}
 use Rattle.blocks.specs.declared.Block.{Block}
 use Rattle.blocks.specs.declared.Form.the-variants.{Right, Wrong}
-use Rattle.blocks.specs.Blocks.{wordOctets, blockCount, blocksOf, wordsOf}
-use Rattle.blocks.specs.Each.{Each}
-use Rattle.blocks.specs.Form.{blockRight, headRight, blockFault, endOf, exact, formOf}
-use Rattle.blocks.proofs.Blocks.{Bounds, both, block-bounds, blocks-read, words-length}
-use Rattle.blocks.proofs.Each.{each-so, each-both}
-use Rattle.blocks.proofs.First.{none-each}
+use Rattle.blocks.specs.Blocks.{firstPlace, blockCount, blocksOf, wordsOf}
+use Rattle.blocks.specs.Form.{blocksMost, blockRight, headRight, blockFault, endOf, exact, formOf, isRight}
+use Rattle.blocks.proofs.Blocks.{Bounds, block-bounds, blocks-read, words-length}
 
 -- ---- the head
 
-pub head-bounds : (d : List ℕ) → headRight d ≡ true → (2 ≤ length d) × (1 ≤ blockCount d) × (blockCount d ≤ 8)
+-- What the head tells.
+pub record HeadFacts (d : List ℕ) : Type 0 where
+  pub long : firstPlace ≤ length d
+  pub some : 1 ≤ blockCount d
+  pub few : blockCount d ≤ blocksMost
+
+pub head-facts : (d : List ℕ) → headRight d ≡ true → HeadFacts d
 unfolding headRight
-head-bounds d right =
-    let s2 = both (leb 2 (length d) && leb 1 (blockCount d)) (leb (blockCount d) 8) right in
-    let s1 = both (leb 2 (length d)) (leb 1 (blockCount d)) (s2 .0) in
-    (leb-true 2 (length d) (s1 .0), leb-true 1 (blockCount d) (s1 .1), leb-true (blockCount d) 8 (s2 .1))
+head-facts d right =
+    let s2 = both (leb firstPlace (length d) && leb 1 (blockCount d)) (leb (blockCount d) blocksMost) right in
+    let s1 = both (leb firstPlace (length d)) (leb 1 (blockCount d)) (s2 .0) in
+    record { long = leb-true _ _ (s1 .0); some = leb-true _ _ (s1 .1); few = leb-true _ _ (s2 .1) }
 
-pub head-right : (d : List ℕ) → 2 ≤ length d → 1 ≤ blockCount d → blockCount d ≤ 8 → headRight d ≡ true
+pub head-not : (d : List ℕ) → (HeadFacts d → ⊥) → headRight d ≡ false
+head-not d not = by-test (headRight d) (λ t. absurd (not (head-facts d t))) (λ w. w)
+
+pub head-ends : (d : List ℕ) → firstPlace ≤ length d → 1 ≤ blockCount d → headRight d ≡ leb (blockCount d) blocksMost
 unfolding headRight
-head-right d long some few =
-    simp (le-leb 2 (length d) long, le-leb 1 (blockCount d) some, le-leb (blockCount d) 8 few)
+head-ends d long some = simp (le-leb firstPlace (length d) long, le-leb 1 (blockCount d) some)
 
-pub head-not : (d : List ℕ) → ((2 ≤ length d) × (1 ≤ blockCount d) × (blockCount d ≤ 8) → ⊥) → headRight d ≡ false
-head-not d not = by-test (headRight d) (λ t. absurd (not (head-bounds d t))) (λ w. w)
+-- ---- when each form is given
 
--- ---- exactly when data is well formed, and exactly when each detail is given
-
--- Data is well formed: the head is right, no block is at fault, and the blocks end where the data ends.
-abbrev pub RightBy : Action → List ℕ → Type 0
-RightBy a d = (headRight d ≡ true) × (blockFault a d ≡ 0) × (endOf 2 (blocksOf a d) ≡ length d)
-
--- Why a detail is given: the head is wrong, and it is 0; or it is the first block at fault; or octets are left over, and it is 0.
-abbrev pub WrongBy : Action → List ℕ → ℕ → Type 0
-WrongBy a d k =
-    ((headRight d ≡ false) × (k ≡ 0))
-    ⊎ (((headRight d ≡ true) × (k ≡ blockFault a d) × (k ≡ 0 → ⊥))
-    ⊎ ((headRight d ≡ true) × (blockFault a d ≡ 0) × (k ≡ 0) × (endOf 2 (blocksOf a d) ≡ length d → ⊥)))
-
-pub right-when : (a : Action) (d : List ℕ) → RightBy a d → formOf a d ≡ Right
+pub form-right : (carried most : ℕ) (d : List ℕ) → blockFault carried most d ≡ 0 → endOf firstPlace (blocksOf carried d) ≡ length d → formOf carried most d ≡ Right
 unfolding formOf exact
-right-when a d h =
-    rw (h .0, eq-eqb (blockFault a d) 0 (h .1), eq-eqb (endOf 2 (blocksOf a d)) (length d) (h .2)) refl
+form-right carried most d fault end = rw (eq-eqb (blockFault carried most d) 0 fault, eq-eqb (endOf firstPlace (blocksOf carried d)) (length d) end) refl
 
-pub head-wrong : (a : Action) (d : List ℕ) → headRight d ≡ false → formOf a d ≡ Wrong 0
-unfolding formOf
-head-wrong a d head = rw head refl
-
-pub block-wrong : (a : Action) (d : List ℕ) (k : ℕ) → headRight d ≡ true → k ≡ blockFault a d → (k ≡ 0 → ⊥) → formOf a d ≡ Wrong k
-unfolding formOf
-block-wrong a d k head fault some = rw (head, ← fault, ne-eqb k 0 some) refl
-
-pub left-over : (a : Action) (d : List ℕ)
-    → headRight d ≡ true → blockFault a d ≡ 0 → (endOf 2 (blocksOf a d) ≡ length d → ⊥) → formOf a d ≡ Wrong 0
+pub form-over : (carried most : ℕ) (d : List ℕ) → blockFault carried most d ≡ 0 → (endOf firstPlace (blocksOf carried d) ≡ length d → ⊥) → formOf carried most d ≡ Wrong 0
 unfolding formOf exact
-left-over a d head fault end =
-    rw (head, eq-eqb (blockFault a d) 0 fault, ne-eqb (endOf 2 (blocksOf a d)) (length d) end) refl
+form-over carried most d fault end = rw (eq-eqb (blockFault carried most d) 0 fault, ne-eqb (endOf firstPlace (blocksOf carried d)) (length d) end) refl
 
-pub wrong-when : (a : Action) (d : List ℕ) (k : ℕ) → WrongBy a d k → formOf a d ≡ Wrong k
-wrong-when a d k =
-    ⊎-elim
-    (λ h. head-wrong a d (h .0) ∙ ap Wrong (sym (h .1)))
-    (⊎-elim
-    (λ h. block-wrong a d k (h .0) (h .1) (h .2))
-    (λ h. left-over a d (h .0) (h .1) (h .3) ∙ ap Wrong (sym (h .2))))
+pub form-wrong : (carried most : ℕ) (d : List ℕ) (k : ℕ) → blockFault carried most d ≡ k → 1 ≤ k → formOf carried most d ≡ Wrong k
+unfolding formOf
+form-wrong carried most d k fault some =
+    let other : blockFault carried most d ≡ 0 → ⊥ = λ e. omega arith in
+    rw (ne-eqb (blockFault carried most d) 0 other) (ap Wrong fault)
 
--- One of them holds.
-form-by : (a : Action) (d : List ℕ) → RightBy a d ⊎ ((k : ℕ) × WrongBy a d k)
-form-by a d =
-    by-test (headRight d)
-    (λ h.
-    by-test (eqb (blockFault a d) 0)
+-- Data whose blocks are right has no block at fault, and they end where the data ends.
+pub right-from : (carried most : ℕ) (d : List ℕ) → isRight (formOf carried most d) ≡ true → (blockFault carried most d ≡ 0) × (endOf firstPlace (blocksOf carried d) ≡ length d)
+unfolding formOf exact
+right-from carried most d e =
+    by-test (eqb (blockFault carried most d) 0)
     (λ f.
-    by-test (eqb (endOf 2 (blocksOf a d)) (length d))
-    (λ x. inl (h, eqb-true _ _ f, eqb-true _ _ x))
-    (λ x. inr (0, inr (inr (h, eqb-true _ _ f, refl, eqb-false _ _ x)))))
-    (λ f. inr (blockFault a d, inr (inl (h, refl, eqb-false _ _ f)))))
-    (λ h. inr (0, inl (h, refl)))
-
-wrong-not-right : {k : ℕ} → Wrong k ≡ Right → ⊥
-wrong-not-right e = let z : _≡_ {A = ℕ} 0 1 = cc in omega arith
-
-wrong-same : {j k : ℕ} → Wrong j ≡ Wrong k → j ≡ k
-wrong-same e = cc
-
-pub right-from : (a : Action) (d : List ℕ) → formOf a d ≡ Right → RightBy a d
-right-from a d e =
-    ⊎-elim
-    (λ r. r)
-    (λ (w : (k : ℕ) × WrongBy a d k). absurd (wrong-not-right (sym (wrong-when a d (w .0) (w .1)) ∙ e)))
-    (form-by a d)
-
-pub wrong-from : (a : Action) (d : List ℕ) (k : ℕ) → formOf a d ≡ Wrong k → WrongBy a d k
-wrong-from a d k e =
-    ⊎-elim
-    (λ r. absurd (wrong-not-right (sym e ∙ right-when a d r)))
-    (λ (w : (j : ℕ) × WrongBy a d j). subst (WrongBy a d) (wrong-same (sym (wrong-when a d (w .0) (w .1)) ∙ e)) (w .1))
-    (form-by a d)
+    by-test (eqb (endOf firstPlace (blocksOf carried d)) (length d))
+    (λ x. (eqb-true _ _ f, eqb-true _ _ x))
+    (λ x. absurd (false≢true (rw (f, x) at e))))
+    (λ f. absurd (false≢true (rw f at e)))
 
 -- ---- what well formed data gives
 
-pub right-head : (a : Action) (d : List ℕ) → formOf a d ≡ Right → (2 ≤ length d) × (1 ≤ blockCount d) × (blockCount d ≤ 8)
-right-head a d e = head-bounds d (right-from a d e .0)
+module _ (carried most : ℕ) (d : List ℕ) (right : isRight (formOf carried most d) ≡ true) where
+  right-blocks : Each (λ (b : Block). blockRight most (length d) b ≡ true) (blocksOf carried d)
+  unfolding blockFault
+  right-blocks = none-each (blockRight most (length d)) (blocksOf carried d) 1 (omega arith) (right-from carried most d right .0)
 
-pub right-blocks : (a : Action) (d : List ℕ) → formOf a d ≡ Right
-    → Each (λ (b : Block). blockRight a (length d) b ≡ true) (blocksOf a d)
-unfolding blockFault
-right-blocks a d e = none-each (blockRight a (length d)) (blocksOf a d) 1 (omega arith) (right-from a d e .1)
+  -- No block is too long.
+  pub right-bounds : Each (Bounds most (length d)) (blocksOf carried d)
+  right-bounds = each-so (blocksOf carried d) (block-bounds most (length d)) right-blocks
 
-pub right-bounds : (a : Action) (d : List ℕ) → formOf a d ≡ Right → Each (Bounds a (length d)) (blocksOf a d)
-right-bounds a d e = each-so (blocksOf a d) (block-bounds a (length d)) (right-blocks a d e)
-
--- The words of each block of a load are all there.
-pub right-words : (d : List ℕ) → formOf Load d ≡ Right
-    → Each (λ (b : Block). length (wordsOf d b) ≡ wordOctets (b .words)) (blocksOf Load d)
-right-words d e =
-    each-so (blocksOf Load d)
-    (λ b h. words-length d b (h .1 .0) (h .0) (h .1 .1))
-    (each-both _ _ (blocksOf Load d) (right-blocks Load d e) (blocks-read Load d (blockCount d) 2))
-
-pub right-end : (a : Action) (d : List ℕ) → formOf a d ≡ Right → endOf 2 (blocksOf a d) ≡ length d
-right-end a d e = right-from a d e .2
+  -- The words of each block are all there.
+  pub right-words : Each (λ (b : Block). length (wordsOf d b) ≡ b .words * carried) (blocksOf carried d)
+  right-words =
+      each-so (blocksOf carried d)
+      (λ b h. words-length carried most d b (h .1 .0) (h .0) (h .1 .1))
+      (each-both _ _ (blocksOf carried d) right-blocks (blocks-read carried d (blockCount d) firstPlace))

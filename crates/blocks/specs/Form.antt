@@ -1,40 +1,36 @@
--- Document 01, "Service data" and the detail of refusal 5: when application data is well formed.
-use mathlib.Core.Bool.{Bool, true, cond, _&&_}
+-- Document 01, "Service data" and the detail of refusal 5: when application data of service 6 is well formed.
+use mathlib.Core.Bool.{Bool, true, false, cond, _&&_}
 use mathlib.Core.List.{List, [], _∷_, map}
 use Prim.Native.Nat.{ℕ, _+_}
 use lib.ListN.{length}
 use lib.Dec.{leb, eqb}
-use Rattle.checks.specs.Table.{firstWrong}
-use Rattle.blocks.specs.declared.Action.{Action}
-use Rattle.blocks.specs.declared.Action.the-variants.{Load, Dump, Check}
+use Rattle.laws.specs.First.{firstWrong}
 use Rattle.blocks.specs.declared.Block.{Block}
 use Rattle.blocks.specs.declared.Form.{Form}
 use Rattle.blocks.specs.declared.Form.the-variants.{Right, Wrong}
-use Rattle.blocks.specs.Blocks.{blockCount, blocksOf}
+use Rattle.blocks.specs.Blocks.{firstPlace, headerSize, blockCount, blocksOf}
 
--- The most words that a block may be long: for a dump 240; else as many as its field can say.
-abbrev pub mostWords : Action → ℕ
-mostWords Load = 65535
-mostWords Dump = 240
-mostWords Check = 65535
-
--- A block is not cut off and has no bad length, in application data of that many octets.
-unfoldable pub blockRight : Action → ℕ → Block → Bool
-blockRight action octets block =
-    leb (block .at + 6) octets
-    && leb 1 (block .words)
-    && leb (block .words) (mostWords action)
-    && leb (block .next) octets
+-- The most blocks.
+abbrev pub blocksMost : ℕ
+blocksMost = 8
 
 -- At least 2 octets are there, and N is 1 to 8.
 unfoldable pub headRight : List ℕ → Bool
 headRight application =
-    leb 2 (length application) && leb 1 (blockCount application) && leb (blockCount application) 8
+    leb firstPlace (length application) && leb 1 (blockCount application) && leb (blockCount application) blocksMost
+
+-- A block is not cut off and has no bad length, in application data of that many octets; it is at most so many words long.
+unfoldable pub blockRight : ℕ → ℕ → Block → Bool
+blockRight most octets block =
+    leb (block .at + headerSize) octets
+    && leb 1 (block .words)
+    && leb (block .words) most
+    && leb (block .next) octets
 
 -- The first block, from 1, that is cut off or has a bad length; 0 where none is.
-unfoldable pub blockFault : Action → List ℕ → ℕ
-blockFault action application =
-    firstWrong (map (blockRight action (length application)) (blocksOf action application))
+unfoldable pub blockFault : ℕ → ℕ → List ℕ → ℕ
+blockFault carried most application =
+    firstWrong (map (blockRight most (length application)) (blocksOf carried application))
 
 -- Where the last of some blocks ends, and the given place where there is none.
 unfoldable pub endOf : ℕ → List Block → ℕ
@@ -42,18 +38,21 @@ endOf place [] = place
 endOf place (block ∷ rest) = endOf (block .next) rest
 
 -- The blocks use the application data exactly.
-unfoldable pub exact : Action → List ℕ → Bool
-exact action application = eqb (endOf 2 (blocksOf action application)) (length application)
+unfoldable pub exact : ℕ → List ℕ → Bool
+exact carried application = eqb (endOf firstPlace (blocksOf carried application)) (length application)
 
--- The form of service 6 data: where the head is wrong, or only octets are left over, the detail is 0.
-unfoldable pub formOf : Action → List ℕ → Form
-formOf action application =
-    cond (headRight application)
-    (cond (eqb (blockFault action application) 0)
-    (cond (exact action application) Right (Wrong 0))
-    (Wrong (blockFault action application)))
-    (Wrong 0)
+-- The form of the blocks: the first block at fault; where only octets are left over, the detail is 0.
+unfoldable pub formOf : ℕ → ℕ → List ℕ → Form
+formOf carried most application =
+    cond (eqb (blockFault carried most application) 0)
+    (cond (exact carried application) Right (Wrong 0))
+    (Wrong (blockFault carried most application))
 
--- The form of service 17 data: there is none.
-unfoldable pub emptyForm : List ℕ → Form
-emptyForm application = cond (eqb (length application) 0) Right (Wrong 0)
+-- Whether the blocks are well formed, and the detail where they are not.
+abbrev pub isRight : Form → Bool
+isRight Right = true
+isRight (Wrong k) = false
+
+abbrev pub formDetail : Form → ℕ
+formDetail Right = 0
+formDetail (Wrong k) = k

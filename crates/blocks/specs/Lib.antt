@@ -1,4 +1,3 @@
 pub mod Blocks
-pub mod Each
-pub mod Examples
 pub mod Form
+pub mod Examples

@@ -1,13 +1,6 @@
-// Application data of services 6 and 17: whether it is well formed, and the blocks of service 6.
+// Application data of service 6: its blocks, and whether it is well formed.
 pub mod reading;
 pub mod shape;
-
-// What a TC of service 6 asks for: (6,2), (6,5) or (6,9).
-pub enum Action {
-    Load,
-    Dump,
-    Check,
-}
 
 // A block of service 6 data.
 pub struct Block {
@@ -21,8 +14,17 @@ pub struct Block {
     pub next: usize,
 }
 
-// Whether application data is well formed, and if not the detail of refusal 5.
+// Whether blocks are well formed, and if not the detail of refusal 5.
 pub enum Form {
     Right,
     Wrong(u16),
 }
+
+// The octets before the first block: the memory ID and N.
+pub const FIRST: usize = 2;
+
+// The octets of a block's start and length.
+const HEADER: usize = 6;
+
+// The most blocks.
+const BLOCKS_MOST: u16 = 8;

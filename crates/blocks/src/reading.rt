@@ -1,19 +1,33 @@
 // A block of service 6 data read at its place, and the words that it carries.
 ghost use mathlib.Core.Path.{_≡_};
 ghost use Prim.Native.Nat.{min};
-ghost use Rattle.blocks.specs.Blocks.{blockAt, carried, wordsOf};
-use super::Action;
+ghost use Rattle.blocks.specs.Blocks.{blockAt, memoryId, blockCount, wordsOf};
 use super::Block;
+use super::HEADER;
 
-// The block at a place of the application data: start (4 octets), length in words (2), then what it carries.
+// The memory ID, the first octet.
+pub fn memory_id(application: &[u8]) -> u8
+    ensures { λ r. ⌜ r ≡ memoryId (now (application .entry)) ⌝ }
+{
+    octets::numbers::octet_at(application, 0) as u8
+}
+
+// N, the second octet.
+pub fn block_count(application: &[u8]) -> u8
+    ensures { λ r. ⌜ r ≡ blockCount (now (application .entry)) ⌝ }
+{
+    octets::numbers::octet_at(application, 1) as u8
+}
+
+// The block at a place of the application data: start (4 octets), length in words (2), then so many octets for each word.
 // A place past the end counts as the end, and octets past the end as 0.
-pub fn block_at(action: Action, application: &[u8], place: usize) -> Block
-    ensures { λ r. ⌜ r ≡ blockAt action (now (application .entry)) place ⌝ }
+pub fn block_at(carried: u8, application: &[u8], place: usize) -> Block
+    ensures { λ r. ⌜ r ≡ blockAt carried (now (application .entry)) place ⌝ }
 {
     let at = within(application.len(), place);
     let start = octets::numbers::word32_at(application, at);
     let words = octets::numbers::word16_at(application, at + 4);
-    let next = at + 6 + carried(action, words);
+    let next = at + HEADER + (words as usize) * (carried as usize);
     Block {
         at,
         start,
@@ -29,18 +43,7 @@ fn within(end: usize, place: usize) -> usize
     if place < end { place } else { end }
 }
 
-// How many octets of words follow a block's start and length.
-fn carried(action: Action, words: u16) -> usize
-    ensures { λ r. ⌜ r ≡ carried action words ⌝ }
-{
-    match action {
-        Action::Load => (words as usize) * 2,
-        Action::Dump => 0,
-        Action::Check => 0,
-    }
-}
-
-// The words that a block of a load carries, as a part of the application data; none where the block does not lie in it.
+// The words that a block carries, as a part of the application data; none where the block does not lie in it.
 pub fn words<'a>(application: &'a [u8], block: Block) -> &'a [u8]
     ensures { λ r. ⌜ now r ≡ wordsOf (now (application .entry)) block ⌝ }
 {
@@ -49,5 +52,5 @@ pub fn words<'a>(application: &'a [u8], block: Block) -> &'a [u8]
     if application.len() < at {
         return &application[..0];
     }
-    octets::copy::part(application, at + 6, next)
+    octets::copy::part(application, at + HEADER, next)
 }

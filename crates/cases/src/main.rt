@@ -1,28 +1,38 @@
 // The program `cases`: the terminal, the reader, the writer and the CRC over lines of text, one command a line.
-use crate::line::Octets;
-use crate::session::Out;
-use crate::session::Session;
-use crate::session::Store;
-use crate::text::Buffer;
-use libc::STDERR_FILENO;
-use libc::STDIN_FILENO;
+use commands::line;
+use commands::line::OCTETS_MOST;
+use commands::line::Octets;
+use commands::session;
+use commands::session::OUT_ROOM;
+use commands::session::Out;
+use commands::session::STORE_ROOM;
+use commands::session::Session;
+use commands::session::Store;
+use commands::text;
+use commands::text::Buffer;
+use commands::text::TEXT_ROOM;
+use console::Got;
+use lines::Cut;
+ghost use Prim.Native.Nat.{_≤_};
+ghost use lib.ListN.{length};
 
-mod form;
-mod line;
-mod serve;
-mod session;
-mod show;
-mod text;
+// What one read fills, and how much text waits at the most while lines are served.
+const INPUT_ROOM: usize = 65536;
 
-// What one read fills.
-type Input = [u8; 65536];
+type Input = [u8; INPUT_ROOM];
+
+// Whether to go on, and the session.
+struct Next {
+    on: bool,
+    s: Session,
+}
 
 fn main() {
-    let mut input = [0u8; 65536];
-    let mut octets = [0u8; 70000];
-    let mut store = [0u8; 65600];
-    let mut out = [0u8; 8192];
-    let mut buffer = [0u8; 65536];
+    let mut input = [0u8; INPUT_ROOM];
+    let mut octets = [0u8; OCTETS_MOST];
+    let mut store = [0u8; STORE_ROOM];
+    let mut out = [0u8; OUT_ROOM];
+    let mut buffer = [0u8; TEXT_ROOM];
     run(&mut input, &mut octets, &mut store, &mut out, &mut buffer);
 }
 
@@ -34,14 +44,14 @@ fn run(
     out: &mut Out,
     buffer: &mut Buffer,
 ) {
-    let mut s = session::start();
     let mut turns = u64::MAX;
-    while turns > 0 {
-        s = turn(s, input, octets, store, out, buffer);
-        let t = s.text;
-        if !t.open {
-            return;
-        }
+    let mut t = Next {
+        on: true,
+        s: session::start(),
+    };
+    while turns > 0 && t.on {
+        let s = t.s;
+        t = turn(s, input, octets, store, out, buffer);
         turns -= 1;
     }
 }
@@ -54,60 +64,51 @@ fn turn(
     store: &mut Store,
     out: &mut Out,
     buffer: &mut Buffer,
-) -> Session {
-    let t = text::flush(s.text, buffer);
-    let next = session::with_text(s, t);
-    if !t.open {
-        return next;
+) -> Next {
+    let t = written(s, buffer);
+    if !t.on {
+        return t;
     }
-    let n = read(input);
-    if n == 0 {
-        return end(next, octets, store, out, buffer);
-    }
-    feed(
-        next,
-        octets::copy::part(input, 0, n),
-        octets,
-        store,
-        out,
-        buffer,
-    )
-}
-
-// How many octets one read put at the front of a buffer: 0 at the input's end, and where the read failed.
-fn read(input: &mut Input) -> usize {
-    let got = libc::read(STDIN_FILENO, input);
-    say_if_failed(got);
-    io::count(got, input)
-}
-
-// A read that fails is said, and taken for the end of the input.
-fn say_if_failed(got: isize) {
-    if got < 0 {
-        io::write_all(STDERR_FILENO, b"cases: standard input cannot be read\n");
+    let next = t.s;
+    match console::read(b"cases", input, 0) {
+        Got::More(n) => feed(
+            next,
+            octets::copy::part(input, 0, n),
+            octets,
+            store,
+            out,
+            buffer,
+        ),
+        Got::End => end(next, octets, store, out, buffer),
+        Got::Failed => Next { on: false, s: next },
     }
 }
 
-// Serves what came of a last line without its newline, and writes out the text that waits; no turn follows.
-fn end(
-    s: Session,
-    octets: &Octets,
-    store: &mut Store,
-    out: &mut Out,
-    buffer: &mut Buffer,
-) -> Session {
+// Writes out the text that waits; text that found no room is a failure.
+fn written(s: Session, buffer: &Buffer) -> Next {
+    let t = s.text;
+    let on = console::write(b"cases", octets::copy::part(buffer, 0, t.at));
+    let next = session::with_text(s, text::start());
+    if t.lost {
+        console::fail(b"cases", b": an answer is longer than its buffer\n");
+        return Next { on: false, s: next };
+    }
+    Next { on, s: next }
+}
+
+// Serves what came of a last line without its newline, and writes out its answer; no turn follows.
+fn end(s: Session, octets: &Octets, store: &mut Store, out: &mut Out, buffer: &mut Buffer) -> Next {
     let l = s.line;
     if l.seen == 0 {
-        return close(s, buffer);
+        return Next { on: false, s };
     }
-    close(serve::serve(s, octets, store, out, buffer), buffer)
-}
-
-// The session with its text written out and closed.
-fn close(s: Session, buffer: &Buffer) -> Session {
-    let mut t = text::flush(s.text, buffer);
-    t.open = false;
-    session::with_text(s, t)
+    let served = replies::serve(s, octets, store, out, buffer);
+    let last = written(served, buffer);
+    let after = last.s;
+    Next {
+        on: false,
+        s: after,
+    }
 }
 
 // Serves each line that ends in the octets read, and keeps what is there of the next.
@@ -118,19 +119,27 @@ fn feed(
     store: &mut Store,
     out: &mut Out,
     buffer: &mut Buffer,
-) -> Session {
-    let mut next = s;
+) -> Next {
+    let mut next = Next { on: true, s };
     let mut at: usize = 0;
-    while at < input.len() {
-        let t = next.text;
-        if !t.open {
-            return next;
-        }
-        let end = characters::line_end(input, at);
-        next = go_on(next, input, at, end, octets, store, out, buffer);
+    while at < input.len() && next.on {
+        let before = next.s;
+        let end = line_end(input, at);
+        next = go_on(before, input, at, end, octets, store, out, buffer);
         at = end + 1;
     }
     next
+}
+
+// Where the line ends that goes on at a place of the input: at its newline, or with the input.
+fn line_end(input: &[u8], at: usize) -> usize
+    requires { ⌜ at ≤ length (now input) ⌝ }
+    ensures { λ r. ⌜ (at ≤ r) × (r ≤ length (now (input .entry))) ⌝ }
+{
+    match lines::next(input, at, input.len()) {
+        Cut::Piece(count, _) => at + count,
+        Cut::More => input.len(),
+    }
 }
 
 // Takes in the characters from a place up to another, and serves the line if a newline stands there.
@@ -143,11 +152,20 @@ fn go_on(
     store: &mut Store,
     out: &mut Out,
     buffer: &mut Buffer,
-) -> Session {
+) -> Next {
     let l = line::fill(s.line, octets::copy::part(input, at, end), octets);
     let next = session::with_line(s, l);
     if end < input.len() {
-        return serve::serve(next, octets, store, out, buffer);
+        return spared(replies::serve(next, octets, store, out, buffer), buffer);
     }
-    next
+    Next { on: true, s: next }
+}
+
+// Writes out the text if little room may be left for the next answer.
+fn spared(s: Session, buffer: &Buffer) -> Next {
+    let t = s.text;
+    if INPUT_ROOM < t.at {
+        return written(s, buffer);
+    }
+    Next { on: true, s }
 }

@@ -1,10 +1,7 @@
-// Characters: hexadecimal digits, and where a line ends.
+// Hexadecimal digits.
 ghost use mathlib.Core.Path.{_≡_};
-ghost use Prim.Native.Nat.{_+_};
-ghost use lib.ListN.{length, drop};
 ghost use Rattle.characters.specs.Digits.{valueOf, digitOf};
 ghost use Rattle.characters.specs.Digits.{within as Within};
-ghost use Rattle.characters.specs.Lines.{lineIn};
 
 // Whether a character lies in a range, its two ends included.
 fn lies_within(low: u8, high: u8, c: u8) -> bool
@@ -38,18 +35,4 @@ pub fn digit(x: u8) -> u8
 {
     let v = x % 16;
     if v < 10 { 0x30 + v } else { 0x41 + (v - 10) }
-}
-
-// The place of the first newline from a place on; without one, the end, or that place where it is past the end.
-pub fn line_end(input: &[u8], from: usize) -> usize
-    ensures { λ r. ⌜ r ≡ from + length (lineIn (drop from (now (input .entry)))) ⌝ }
-{
-    let mut end = from;
-    while end < input.len() {
-        if input[end] == 10 {
-            return end;
-        }
-        end += 1;
-    }
-    end
 }

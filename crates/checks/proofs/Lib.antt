@@ -1,1 +1,3 @@
 pub mod Table
+pub mod Numbers
+pub mod Verdicts

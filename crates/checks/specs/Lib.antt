@@ -1,2 +1,2 @@
-pub mod Verdict
 pub mod Table
+pub mod Verdict

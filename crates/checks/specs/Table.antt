@@ -5,40 +5,27 @@ use mathlib.Core.Logic.{_⊎_}
 use mathlib.Core.List.{List, [], _∷_}
 use Prim.Native.Nat.{ℕ, suc}
 
--- A check: what is answered where it fails, and whether it holds.
-pub record Row (A : Type 0) : Type 0 where
-  pub refusal : A
+-- A check: its refusal where it fails, and whether it holds.
+pub record Row (R : Type 0) : Type 0 where
+  pub refusal : R
   pub holds : Bool
 
--- A row of a table.
-abbrev pub row : {A : Type 0} → A → Bool → Row A
-row refusal holds = record { refusal = refusal; holds = holds }
-
 -- The answer: that of the first row that does not hold, and the given one where all do.
-unfoldable pub answer : {A : Type 0} → A → List (Row A) → A
-answer fine [] = fine
-answer fine (r ∷ rest) = cond (r .holds) (answer fine rest) (r .refusal)
+unfoldable pub answer : {A R : Type 0} → A → (R → A) → List (Row R) → A
+answer fine refuses [] = fine
+answer fine refuses (r ∷ rest) = cond (r .holds) (answer fine refuses rest) (refuses (r .refusal))
 
 -- The place, from 0, of the first row that does not hold; how many rows there are where all do.
-unfoldable pub place : {A : Type 0} → List (Row A) → ℕ
+unfoldable pub place : {R : Type 0} → List (Row R) → ℕ
 place [] = 0
 place (r ∷ rest) = cond (r .holds) (suc (place rest)) 0
 
 -- A row is the first of a table that does not hold.
-unfoldable pub First : {A : Type 0} → List (Row A) → Row A → Type 0
+unfoldable pub First : {R : Type 0} → List (Row R) → Row R → Type 0
 First [] r = ⊥
 First (x ∷ rest) r = ((x .holds ≡ false) × (r ≡ x)) ⊎ ((x .holds ≡ true) × First rest r)
 
 -- Every row of a table holds.
-unfoldable pub AllHold : {A : Type 0} → List (Row A) → Type 0
+unfoldable pub AllHold : {R : Type 0} → List (Row R) → Type 0
 AllHold [] = Unit
 AllHold (r ∷ rest) = (r .holds ≡ true) × AllHold rest
-
--- The place of the first of some tests that fails, the first test counted as the given number; 0 where none does.
-unfoldable pub firstFrom : ℕ → List Bool → ℕ
-firstFrom k [] = 0
-firstFrom k (test ∷ rest) = cond test (firstFrom (suc k) rest) k
-
--- The place, from 1, of the first of some tests that fails; 0 where none does.
-abbrev pub firstWrong : List Bool → ℕ
-firstWrong tests = firstFrom 1 tests

@@ -1,36 +1,78 @@
-// Document 01, "Refusal numbers in checking order": the answers a check can give, with their numbers and details.
+// Document 01, "Refusal numbers in checking order": the checks with their numbers, and what a packet is answered.
 ghost use mathlib.Core.Path.{_≡_};
-ghost use Rattle.checks.specs.Verdict.{isAccepted, numberOf, detailOf};
+ghost use Rattle.checks.specs.Verdict.{checkNumber, isAccepted, numberOf, detailOf, silent};
 
-// What a packet is answered: accepted, or refused by the first check that fails, with its detail where it has one.
+// The checks, in checking order.
+pub enum Check {
+    // The output buffer is below 4,096 octets.
+    Buffer,
+    // The profile is not sound, the store odd or too long, or a count handed in above 16,383.
+    Caller,
+    // Fewer than 6 octets received.
+    Short,
+    // The received count is below 12, above 248, or not the length field plus 7.
+    Length,
+    // The error control is wrong.
+    Control,
+    // Version, type bit, header flag, sequence flags or PUS version.
+    Header,
+    // The APID is not the profile's PID with category 12.
+    Apid,
+    // The type is neither 6 nor 17, or no flag of that type is set.
+    Service,
+    // The subtype is not known, or its flag is off.
+    Subtype,
+    // The application data is not well formed.
+    Form,
+    // No area has that memory ID.
+    Memory,
+    // The area lacks the right.
+    Right,
+    // A block is not wholly inside the area.
+    Outside,
+}
+
+// A check that failed, and its detail; 0 where it has none.
+pub struct Refusal {
+    pub check: Check,
+    pub detail: u16,
+}
+
+// What a packet is answered: acceptance, or the refusal of the first check that fails.
 pub enum Verdict {
     Accepted,
-    // 40: the output buffer is below 4,096 octets.
-    Buffer,
-    // 41: the profile is not sound, the store odd or too long, or a count handed in above 16,383.
-    Caller,
-    // 42: fewer than 6 octets received.
-    Short,
-    // 1: the received count is below 12, above 248, or not the length field plus 7.
-    Length(u16),
-    // 2: the error control is wrong.
-    Control(u16),
-    // 16: version, type bit, header flag, sequence flags or PUS version.
-    Header(u16),
-    // 0: the APID is not the profile's PID with category 12.
-    Apid(u16),
-    // 3: the type is neither 6 nor 17, or no flag of that type is set.
-    Service(u16),
-    // 4: the subtype is not known, or its flag is off.
-    Subtype(u16),
-    // 5: the application data is not well formed.
-    Form(u16),
-    // 17: no area has that memory ID.
-    Memory(u16),
-    // 18: the area lacks the right.
-    Right(u16),
-    // 19: a block is not wholly inside the area.
-    Outside(u16),
+    Refused(Refusal),
+}
+
+// The first of the numbers whose refusals give no frame.
+const SILENT: u16 = 40;
+
+// The number of a check.
+pub fn check_number(check: Check) -> u16
+    ensures { λ r. ⌜ r ≡ checkNumber check ⌝ }
+{
+    match check {
+        Check::Buffer => 40,
+        Check::Caller => 41,
+        Check::Short => 42,
+        Check::Length => 1,
+        Check::Control => 2,
+        Check::Header => 16,
+        Check::Apid => 0,
+        Check::Service => 3,
+        Check::Subtype => 4,
+        Check::Form => 5,
+        Check::Memory => 17,
+        Check::Right => 18,
+        Check::Outside => 19,
+    }
+}
+
+// The verdict of a check that failed.
+pub fn refuse(check: Check, detail: u16) -> Verdict
+    ensures { λ r. ⌜ r ≡ Verdict.Refused (record { check = check; detail = detail }) ⌝ }
+{
+    Verdict::Refused(Refusal { check, detail })
 }
 
 // Whether a verdict is acceptance.
@@ -39,19 +81,7 @@ pub fn accepted(v: Verdict) -> bool
 {
     match v {
         Verdict::Accepted => true,
-        Verdict::Buffer => false,
-        Verdict::Caller => false,
-        Verdict::Short => false,
-        Verdict::Length(_) => false,
-        Verdict::Control(_) => false,
-        Verdict::Header(_) => false,
-        Verdict::Apid(_) => false,
-        Verdict::Service(_) => false,
-        Verdict::Subtype(_) => false,
-        Verdict::Form(_) => false,
-        Verdict::Memory(_) => false,
-        Verdict::Right(_) => false,
-        Verdict::Outside(_) => false,
+        Verdict::Refused(_) => false,
     }
 }
 
@@ -61,19 +91,10 @@ pub fn number(v: Verdict) -> u16
 {
     match v {
         Verdict::Accepted => 0,
-        Verdict::Buffer => 40,
-        Verdict::Caller => 41,
-        Verdict::Short => 42,
-        Verdict::Length(_) => 1,
-        Verdict::Control(_) => 2,
-        Verdict::Header(_) => 16,
-        Verdict::Apid(_) => 0,
-        Verdict::Service(_) => 3,
-        Verdict::Subtype(_) => 4,
-        Verdict::Form(_) => 5,
-        Verdict::Memory(_) => 17,
-        Verdict::Right(_) => 18,
-        Verdict::Outside(_) => 19,
+        Verdict::Refused(refusal) => {
+            let check = refusal.check;
+            check_number(check)
+        }
     }
 }
 
@@ -83,18 +104,13 @@ pub fn detail(v: Verdict) -> u16
 {
     match v {
         Verdict::Accepted => 0,
-        Verdict::Buffer => 0,
-        Verdict::Caller => 0,
-        Verdict::Short => 0,
-        Verdict::Length(d) => d,
-        Verdict::Control(d) => d,
-        Verdict::Header(d) => d,
-        Verdict::Apid(d) => d,
-        Verdict::Service(d) => d,
-        Verdict::Subtype(d) => d,
-        Verdict::Form(d) => d,
-        Verdict::Memory(d) => d,
-        Verdict::Right(d) => d,
-        Verdict::Outside(d) => d,
+        Verdict::Refused(refusal) => refusal.detail,
     }
+}
+
+// Whether a verdict gives no frame: 40, 41 and 42.
+pub fn is_silent(v: Verdict) -> bool
+    ensures { λ r. ⌜ r ≡ silent v ⌝ }
+{
+    SILENT <= number(v)
 }

@@ -1,8 +1,11 @@
 // Works out the CRC of 64 KiB a thousand times, each time over octets that the one before has changed, and prints the last: what `pearlwinch bench` times.
 use libc::STDOUT_FILENO;
 
+// How many octets there are.
+const LENGTH: usize = 65536;
+
 fn main() {
-    let mut octets = [0u8; 65536];
+    let mut octets = [0u8; LENGTH];
     for round in 0usize..1000 {
         turn(&mut octets);
     }
@@ -12,10 +15,6 @@ fn main() {
 
 // The CRC of the octets takes the place of the first two.
 fn turn(octets: &mut [u8]) {
-    if octets.len() < 2 {
-        return;
-    }
-    let value = crc::crc(octets);
-    octets[0] = (value / 256) as u8;
-    octets[1] = (value % 256) as u8;
+    let value = octets::numbers::octets_of16(crc::crc(octets));
+    octets::copy::put(octets, 0, &value);
 }

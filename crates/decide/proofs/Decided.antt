@@ -1,193 +1,144 @@
--- What a verdict tells: of a packet that is answered with a frame, of one that is accepted, and that each refusal is given exactly when its check is the first that fails.
+-- What a verdict tells: of a packet that is answered with a frame, and of one that is accepted.
 -- Assumes nothing.
--- ---- check 41, part by part
 use mathlib.Core.Path.{_≡_, refl, sym, ap, subst, _∙_}
 use mathlib.Core.Bool.{true, false, false≢true, _&&_}
 use mathlib.Core.List.{List}
-use mathlib.Core.Logic.{⊎-elim}
 use Prim.Native.Nat.{ℕ, _≤_}
 use lib.ListN.{length}
 use lib.Dec.{leb}
 use borrow.Author.Tests.{leb-true, leb-false, eqb-true}
+use Rattle.laws.proofs.Tests.{by-test, halves}
 use Rattle.octets.specs.Fields.{apidOf}
 use Rattle.checks.specs.declared.Verdict.{Verdict}
 use Rattle.checks.specs.declared.Verdict.the-variants.{Accepted}
-use Rattle.checks.specs.Verdict.{isAccepted}
-use Rattle.checks.specs.Table.{Row, First, AllHold}
-use Rattle.checks.proofs.Table.{by-test, first-gives, all-give, answer-from, accepted-all, Refusing}
-use Rattle.tc.specs.Layout.{fieldsOf, applicationOf}
-use Rattle.tc.specs.Reader.{readerRows, judged}
+use Rattle.checks.specs.Verdict.{isAccepted, silent}
+use Rattle.checks.specs.Table.{AllHold}
+use Rattle.checks.proofs.Numbers.{accepted-is}
+use Rattle.checks.proofs.Table.{all-append}
+use Rattle.checks.proofs.Verdicts.{accepted-holds, all-accept}
+use Rattle.tc.specs.Layout.{category, fieldsOf, applicationOf}
+use Rattle.tc.specs.Reader.{leastOctets, readerRows, judged, readingOf}
 use Rattle.tc.proofs.Judged.{judged-short}
 use Rattle.map.specs.declared.Area.{Area}
 use Rattle.map.specs.declared.Profile.{Profile}
 use Rattle.map.specs.declared.Found.{Found}
 use Rattle.map.specs.declared.Found.the-variants.{At, Nothing}
 use Rattle.map.specs.Sound.{sound, storeAllowed}
-use Rattle.blocks.specs.declared.Action.{Action}
-use Rattle.blocks.specs.declared.Form.{Form}
-use Rattle.blocks.specs.declared.Form.the-variants.{Right, Wrong}
 use Rattle.blocks.specs.Blocks.{blocksOf}
-use Rattle.blocks.specs.Form.{formOf}
-use Rattle.blocks.proofs.Blocks.{both}
+use Rattle.blocks.specs.Form.{headRight, formOf, isRight}
+use Rattle.tm.specs.Counts.{inRange}
 use Rattle.decide.specs.declared.State.{State}
-use Rattle.decide.specs.declared.Request.{Request}
-use Rattle.decide.specs.declared.Request.the-variants.{Memory}
-use Rattle.decide.specs.Request.{serves, offers, formFor, isRight, rightFor, areaNamed, isFound, hasRight, outsideOf}
-use Rattle.decide.specs.Table.{callerRight, allInside, namesArea, mayDo, staysInside, callerRows, requestRows, requestIn, rows, decided, silent}
-use Rattle.decide.proofs.Checked.{decided-buffer, decided-caller, decided-reader}
+use Rattle.decide.specs.declared.Action.{Action}
+use Rattle.decide.specs.declared.Request.the-variants.{Memory, Connection}
+use Rattle.decide.specs.declared.Asked.{Asked}
+use Rattle.decide.specs.declared.Asked.the-variants.{Known, Unknown}
+use Rattle.decide.specs.declared.Decision.{Decision}
+use Rattle.decide.specs.Request.{serves, offers, rightFor, carriedBy, mostWords, areaNamed, isFound, outsideOf}
+use Rattle.decide.specs.Table.{outLeast, callerRight, hasRight, allInside, callerRows, areaRows, memoryRows, memoryTask, serviceRows, taskFor, askedBy, requestRows, rows, decided, decisionOf, Formed, FormedFor}
+use Rattle.decide.proofs.Checked.{decision-decided, at-buffer, at-caller, at-reader}
+
+-- ---- check 41, part by part
 
 -- What the caller hands in besides the output buffer is right.
 pub record CallerFacts (p : Profile) (state : State) (octets : ℕ) : Type 0 where
   pub sound : sound p octets ≡ true
   pub store : storeAllowed octets ≡ true
-  pub reports : state .reports ≤ 16383
-  pub services : state .services ≤ 16383
+  pub counts : inRange (state .counts) ≡ true
 
 pub caller-facts : (p : Profile) (state : State) (octets : ℕ) → callerRight p state octets ≡ true → CallerFacts p state octets
 unfolding callerRight
-caller-facts p state octets right =
-    let reports = leb (state .reports) 16383 in
-    let services = leb (state .services) 16383 in
-    let s3 = both (sound p octets && storeAllowed octets && reports) services right in
-    let s2 = both (sound p octets && storeAllowed octets) reports (s3 .0) in
-    let s1 = both (sound p octets) (storeAllowed octets) (s2 .0) in
-    record { sound = s1 .0; store = s1 .1; reports = leb-true _ _ (s2 .1); services = leb-true _ _ (s3 .1) }
+caller-facts p state octets right = record { sound = search halves; store = search halves; counts = search halves }
 
 -- ---- a packet that is answered with a frame
 
 -- What every verdict but 40, 41 and 42 tells.
 pub record HeardFacts (p : Profile) (state : State) (octets room : ℕ) (packet : List ℕ) : Type 0 where
-  pub out : 4096 ≤ room
-  pub six : 6 ≤ length packet
-  pub sound : sound p octets ≡ true
-  pub store : storeAllowed octets ≡ true
-  pub reports : state .reports ≤ 16383
-  pub services : state .services ≤ 16383
+  pub out : outLeast ≤ room
+  pub six : leastOctets ≤ length packet
+  pub caller : CallerFacts p state octets
 
 module _ (p : Profile) (state : State) (octets room : ℕ) (packet : List ℕ) where
-  -- A verdict that is silent is not one that is heard.
-  contradicts : {X : Type 0} (v : Verdict) → silent v ≡ true → decided p state octets room packet ≡ v → silent (decided p state octets room packet) ≡ false → X
-  contradicts v quiet is heard = absurd (false≢true (sym heard ∙ ap silent is ∙ quiet))
+  -- A decision that is silent is not one that is heard.
+  contradicts : {X : Type 0} (d : Decision) → silent (d .verdict) ≡ true → d ≡ decisionOf p state octets room packet → silent (decided p state octets room packet) ≡ false → X
+  contradicts d quiet is heard =
+      absurd (false≢true (sym heard ∙ ap silent (sym (decision-decided p state octets room packet) ∙ ap (λ (x : Decision). x .verdict) (sym is)) ∙ quiet))
 
   pub heard-facts : silent (decided p state octets room packet) ≡ false → HeardFacts p state octets room packet
+  unfolding readingOf
   heard-facts heard =
-      by-test (leb 4096 room)
+      by-test (leb outLeast room)
       (λ long.
       by-test (callerRight p state octets)
       (λ right.
-      by-test (leb 6 (length packet))
-      (λ six.
-      let caller = caller-facts p state octets right in
-      record {
-        out = leb-true _ _ long;
-        six = leb-true _ _ six;
-        sound = caller .sound;
-        store = caller .store;
-        reports = caller .reports;
-        services = caller .services;
-      })
+      by-test (leb leastOctets (length packet))
+      (λ six. record { out = leb-true _ _ long; six = leb-true _ _ six; caller = caller-facts p state octets right })
       (λ few.
       let short = judged-short packet (leb-false _ _ few) in
-      contradicts _ refl (decided-reader p state octets room packet (leb-true _ _ long) right (ap isAccepted short) ∙ short) heard))
-      (λ wrong. contradicts _ refl (decided-caller p state octets room packet (leb-true _ _ long) wrong) heard))
-      (λ less. contradicts _ refl (decided-buffer p state octets room packet (leb-false _ _ less)) heard)
+      contradicts _ (ap silent short) (at-reader p state octets room packet (leb-true _ _ long) right (readingOf packet) refl (ap isAccepted short)) heard))
+      (λ wrong. contradicts _ refl (sym (at-caller p state octets room packet (leb-true _ _ long) wrong)) heard))
+      (λ less. contradicts _ refl (sym (at-buffer p state octets room packet (leb-false _ _ less))) heard)
 
 -- ---- a packet that is accepted
 
 -- Every check of the table, passed.
 pub record AcceptedFacts (p : Profile) (state : State) (octets room : ℕ) (packet : List ℕ) : Type 0 where
-  pub out : 4096 ≤ room
-  pub sound : sound p octets ≡ true
-  pub store : storeAllowed octets ≡ true
-  pub reports : state .reports ≤ 16383
-  pub services : state .services ≤ 16383
+  pub out : outLeast ≤ room
+  pub caller : CallerFacts p state octets
   pub judged : judged packet ≡ Accepted
-  pub apid : fieldsOf packet .apid ≡ apidOf (p .pid) 12
-  pub served : serves p (fieldsOf packet .kind) ≡ true
-  pub offered : offers p (requestIn packet) ≡ true
-  pub form : formFor (requestIn packet) (applicationOf packet) ≡ Right
-  pub names : namesArea p (requestIn packet) (applicationOf packet) ≡ true
-  pub may : mayDo p (requestIn packet) (applicationOf packet) ≡ true
-  pub stays : staysInside p (requestIn packet) (applicationOf packet) ≡ true
+  pub apid : fieldsOf packet .apid ≡ apidOf (p .pid) category
+  pub served : serves (p .flags) (fieldsOf packet .kind) ≡ true
+  pub offered : offers (p .flags) (askedBy (fieldsOf packet)) ≡ true
+  pub service : AllHold (serviceRows p (askedBy (fieldsOf packet)) (applicationOf packet))
 
-right-is : (f : Form) → isRight f ≡ true → f ≡ Right
-right-is Right h = refl
-right-is (Wrong k) h = absurd (false≢true h)
+pub accepted-facts : (p : Profile) (state : State) (octets room : ℕ) (packet : List ℕ)
+    → isAccepted (decided p state octets room packet) ≡ true → AcceptedFacts p state octets room packet
+unfolding AllHold decided rows callerRows requestRows judged
+accepted-facts p state octets room packet accepted =
+    let all = accepted-holds (rows p state octets room packet) accepted in
+    let rest = all-append (readerRows packet) (requestRows p (fieldsOf packet) (applicationOf packet)) (all .1 .1) in
+    record {
+      out = leb-true outLeast room (all .0);
+      caller = caller-facts p state octets (all .1 .0);
+      judged = all-accept (readerRows packet) (rest .0);
+      apid = eqb-true _ _ (rest .1 .0);
+      served = rest .1 .1 .0;
+      offered = rest .1 .1 .1 .0;
+      service = rest .1 .1 .1 .1;
+    }
+
+-- ---- an accepted packet of service 6
+
+-- Its data is well formed, the area that it names has the right, and every block is inside it.
+pub record MemoryFacts (p : Profile) (action : Action) (d : List ℕ) : Type 0 where
+  pub formed : Formed action d
+  pub area : Area
+  pub named : areaNamed p d ≡ At area
+  pub right : rightFor (area .rights) action ≡ true
+  pub inside : outsideOf area (blocksOf (carriedBy action) d) ≡ 0
 
 found-is : (f : Found) → isFound f ≡ true → (a : Area) × (f ≡ At a)
 found-is (At a) h = (a, refl)
 found-is Nothing h = absurd (false≢true h)
 
-module _ (p : Profile) (state : State) (octets room : ℕ) (packet : List ℕ) where
-  -- No row of the table answers acceptance.
-  rows-refuse : Refusing isAccepted (rows p state octets room packet)
-  unfolding Refusing rows callerRows readerRows requestRows
-  rows-refuse = (refl, (refl, (refl, (refl, (refl, (refl, (refl, (refl, (refl, (refl, (refl, (refl, (refl, tt)))))))))))))
+pub memory-facts : (p : Profile) (action : Action) (d : List ℕ) → AllHold (memoryRows p action d) → MemoryFacts p action d
+unfolding AllHold memoryRows areaRows
+memory-facts p action d all =
+    let found = found-is (areaNamed p d) (all .1 .1 .0) in
+    record {
+      formed = (all .0, all .1 .0);
+      area = found .0;
+      named = found .1;
+      right = subst (λ (f : Found). hasRight f action ≡ true) (found .1) (all .1 .1 .1 .0);
+      inside = eqb-true _ _ (subst (λ (f : Found). allInside f action d ≡ true) (found .1) (all .1 .1 .1 .1 .0));
+    }
 
-  all-hold : decided p state octets room packet ≡ Accepted → AllHold (rows p state octets room packet)
-  unfolding decided
-  all-hold accepted = accepted-all isAccepted Accepted (rows p state octets room packet) rows-refuse (ap isAccepted accepted)
+-- ---- the data of an accepted packet is well formed for its task
 
-  pub accepted-facts : decided p state octets room packet ≡ Accepted → AcceptedFacts p state octets room packet
-  unfolding AllHold rows callerRows readerRows requestRows judged
-  accepted-facts accepted =
-      let all = all-hold accepted in
-      let caller = caller-facts p state octets (all .1 .0) in
-      let read = all .1 .1 in
-      let asked = read .1 .1 .1 .1 in
-      record {
-        out = leb-true 4096 room (all .0);
-        sound = caller .sound;
-        store = caller .store;
-        reports = caller .reports;
-        services = caller .services;
-        judged = all-give Accepted (readerRows packet) (read .0, (read .1 .0, (read .1 .1 .0, (read .1 .1 .1 .0, tt))));
-        apid = eqb-true _ _ (asked .0);
-        served = asked .1 .0;
-        offered = asked .1 .1 .0;
-        form = right-is _ (asked .1 .1 .1 .0);
-        names = asked .1 .1 .1 .1 .0;
-        may = asked .1 .1 .1 .1 .1 .0;
-        stays = asked .1 .1 .1 .1 .1 .1 .0;
-      }
+formed-memory : (f : Found) (action : Action) (d : List ℕ) → Formed action d → FormedFor (memoryTask f action) d
+formed-memory (At a) action d h = h
+formed-memory Nothing action d h = tt
 
-  -- ---- an accepted packet of service 6
-
-  module _ (facts : AcceptedFacts p state octets room packet) (action : Action) (asks : requestIn packet ≡ Memory action) where
-    -- The area that it names has the right, and every block is inside it.
-    pub memory-accepted :
-        (a : Area)
-        × (areaNamed p (applicationOf packet) ≡ At a)
-        × (rightFor a action ≡ true)
-        × (outsideOf a (blocksOf action (applicationOf packet)) ≡ 0)
-    memory-accepted =
-        let d : List ℕ = applicationOf packet in
-        let found = found-is (areaNamed p d) (subst (λ (q : Request). namesArea p q d ≡ true) asks (facts .names)) in
-        let right : hasRight (areaNamed p d) action ≡ true = subst (λ (q : Request). mayDo p q d ≡ true) asks (facts .may) in
-        let inside : allInside (areaNamed p d) action d ≡ true = subst (λ (q : Request). staysInside p q d ≡ true) asks (facts .stays) in (
-          found .0,
-          found .1,
-          subst (λ (f : Found). hasRight f action ≡ true) (found .1) right,
-          eqb-true _ _ (subst (λ (f : Found). allInside f action d ≡ true) (found .1) inside),
-        )
-
-    -- Its data is well formed.
-    pub memory-form : formOf action (applicationOf packet) ≡ Right
-    memory-form = subst (λ (q : Request). formFor q (applicationOf packet) ≡ Right) asks (facts .form)
-
-  -- ---- exactly when each refusal is given
-
-  -- The first row of the table that fails gives the verdict.
-  pub first-decides : (r : Row Verdict) → First (rows p state octets room packet) r → decided p state octets room packet ≡ r .refusal
-  unfolding decided
-  first-decides r f = first-gives Accepted (rows p state octets room packet) r f
-
-  -- A refusal comes from the first row that fails.
-  pub refused-first : isAccepted (decided p state octets room packet) ≡ false
-      → (r : Row Verdict) × First (rows p state octets room packet) r × (decided p state octets room packet ≡ r .refusal)
-  unfolding decided
-  refused-first h =
-      ⊎-elim
-      (λ (all : AllHold (rows p state octets room packet)). absurd (false≢true (sym h ∙ ap isAccepted (all-give Accepted (rows p state octets room packet) all))))
-      (λ (f : (r : Row Verdict) × First (rows p state octets room packet) r). (f .0, f .1, first-gives Accepted (rows p state octets room packet) (f .0) (f .1)))
-      (answer-from (rows p state octets room packet))
+pub formed-for : (p : Profile) (asked : Asked) (d : List ℕ) → AllHold (serviceRows p asked d) → FormedFor (taskFor p asked d) d
+formed-for p (Known (Memory action)) d all = formed-memory (areaNamed p d) action d (memory-facts p action d all .formed)
+formed-for p (Known Connection) d all = tt
+formed-for p Unknown d all = tt

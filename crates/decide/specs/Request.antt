@@ -3,64 +3,73 @@ use mathlib.Core.Bool.{Bool, true, false, cond, _||_}
 use mathlib.Core.List.{List, map}
 use Prim.Native.Nat.{ℕ}
 use lib.Dec.{eqb}
-use Rattle.checks.specs.Table.{firstWrong}
+use Rattle.laws.specs.First.{firstWrong}
+use Rattle.map.specs.declared.Rights.{Rights}
+use Rattle.map.specs.declared.Flags.{Flags}
 use Rattle.map.specs.declared.Area.{Area}
 use Rattle.map.specs.declared.Profile.{Profile}
 use Rattle.map.specs.declared.Found.{Found}
 use Rattle.map.specs.declared.Found.the-variants.{At, Nothing}
-use Rattle.map.specs.Place.{used, findIn, inside}
-use Rattle.blocks.specs.declared.Action.{Action}
-use Rattle.blocks.specs.declared.Action.the-variants.{Load, Dump, Check}
+use Rattle.map.specs.Place.{wordOctets, dumpWords, used, findIn, inside}
 use Rattle.blocks.specs.declared.Block.{Block}
-use Rattle.blocks.specs.declared.Form.{Form}
-use Rattle.blocks.specs.declared.Form.the-variants.{Right, Wrong}
-use Rattle.blocks.specs.Blocks.{memoryId, blocksOf}
-use Rattle.blocks.specs.Form.{formOf, emptyForm}
+use Rattle.blocks.specs.Blocks.{memoryId}
+use Rattle.decide.specs.declared.Action.{Action}
+use Rattle.decide.specs.declared.Action.the-variants.{Load, Dump, Check}
 use Rattle.decide.specs.declared.Request.{Request}
-use Rattle.decide.specs.declared.Request.the-variants.{Memory, Connection, Unknown}
+use Rattle.decide.specs.declared.Request.the-variants.{Memory, Connection}
+use Rattle.decide.specs.declared.Asked.{Asked}
+use Rattle.decide.specs.declared.Asked.the-variants.{Known, Unknown}
+
+-- The types of the services known.
+abbrev pub memoryType : ℕ
+memoryType = 6
+
+abbrev pub connectionType : ℕ
+connectionType = 17
 
 -- The type's flags of a profile: is any set?
-unfoldable pub serves : Profile → ℕ → Bool
-serves p kind = cond (eqb kind 6) (p .load || p .dump || p .check) (cond (eqb kind 17) (p .connection) false)
+unfoldable pub serves : Flags → ℕ → Bool
+serves f kind = cond (eqb kind memoryType) (f .load || f .dump || f .check) (cond (eqb kind connectionType) (f .connection) false)
+
+-- What a subtype of service 6 asks for: (6,2), (6,5) and (6,9).
+unfoldable pub memoryAsked : ℕ → Asked
+memoryAsked subtype =
+    cond (eqb subtype 2) (Known (Memory Load)) (cond (eqb subtype 5) (Known (Memory Dump)) (cond (eqb subtype 9) (Known (Memory Check)) Unknown))
 
 -- What a type and subtype ask for.
-unfoldable pub requestOf : ℕ → ℕ → Request
-requestOf kind subtype =
-    cond (eqb kind 6)
-    (cond (eqb subtype 2) (Memory Load) (cond (eqb subtype 5) (Memory Dump) (cond (eqb subtype 9) (Memory Check) Unknown)))
-    (cond (eqb kind 17) (cond (eqb subtype 1) Connection Unknown) Unknown)
+unfoldable pub askedFor : ℕ → ℕ → Asked
+askedFor kind subtype =
+    cond (eqb kind memoryType) (memoryAsked subtype)
+    (cond (eqb kind connectionType) (cond (eqb subtype 1) (Known Connection) Unknown) Unknown)
 
--- The flag of a request, in a profile or, for a memory action, the right in an area.
-abbrev pub flagFor : Profile → Action → Bool
-flagFor p Load = p .load
-flagFor p Dump = p .dump
-flagFor p Check = p .check
+-- The flag of an action in a profile, and the right in an area.
+abbrev pub flagFor : Flags → Action → Bool
+flagFor f Load = f .load
+flagFor f Dump = f .dump
+flagFor f Check = f .check
 
-abbrev pub rightFor : Area → Action → Bool
-rightFor a Load = a .load
-rightFor a Dump = a .dump
-rightFor a Check = a .check
+abbrev pub rightFor : Rights → Action → Bool
+rightFor r Load = r .load
+rightFor r Dump = r .dump
+rightFor r Check = r .check
 
 -- The request is known, and its flag is on.
-abbrev pub offers : Profile → Request → Bool
-offers p (Memory action) = flagFor p action
-offers p Connection = p .connection
-offers p Unknown = false
+abbrev pub offers : Flags → Asked → Bool
+offers f (Known (Memory action)) = flagFor f action
+offers f (Known Connection) = f .connection
+offers f Unknown = false
 
--- The form of the application data that a request comes with.
-abbrev pub formFor : Request → List ℕ → Form
-formFor (Memory action) application = formOf action application
-formFor Connection application = emptyForm application
-formFor Unknown application = Wrong 0
+-- How many octets of the application data a word of a block is: a load carries its words, a dump and a check do not.
+abbrev pub carriedBy : Action → ℕ
+carriedBy Load = wordOctets
+carriedBy Dump = 0
+carriedBy Check = 0
 
-abbrev pub isRight : Form → Bool
-isRight Right = true
-isRight (Wrong k) = false
-
--- The detail of refusal 5.
-abbrev pub formDetail : Form → ℕ
-formDetail Right = 0
-formDetail (Wrong k) = k
+-- The most words that a block may be long: for a dump 240; else as many as its field can say.
+abbrev pub mostWords : Action → ℕ
+mostWords Load = 65535
+mostWords Dump = dumpWords
+mostWords Check = 65535
 
 -- The area that application data names by its memory ID.
 abbrev pub areaNamed : Profile → List ℕ → Found
@@ -70,11 +79,10 @@ abbrev pub isFound : Found → Bool
 isFound (At a) = true
 isFound Nothing = false
 
--- The area has the right that an action needs; no area has none.
-abbrev pub hasRight : Found → Action → Bool
-hasRight (At a) action = rightFor a action
-hasRight Nothing action = false
+-- A block lies wholly inside an area.
+abbrev pub insideOf : Area → Block → Bool
+insideOf a b = inside a (b .start) (b .words)
 
 -- The first block, from 1, that is not wholly inside an area; 0 where all are.
 unfoldable pub outsideOf : Area → List Block → ℕ
-outsideOf a blocks = firstWrong (map (λ b. inside a (b .start) (b .words)) blocks)
+outsideOf a blocks = firstWrong (map (insideOf a) blocks)

@@ -1,38 +1,136 @@
-// Decides on a packet: the table of all thirteen checks, in its order.
-use blocks::Action;
+// Decides on a packet: the common checks, and then those of the service that it asks.
 use blocks::Form;
+use checks::Check;
 use checks::Verdict;
 use map::Area;
+use map::Flags;
 use map::Found;
 use map::Profile;
+use map::Rights;
+use octets::copy::Span;
 use tc::Fields;
+use tm::counts::Counts;
 ghost use mathlib.Core.Path.{_≡_};
-ghost use mathlib.Core.List.{List, [], _∷_};
-ghost use Prim.Native.Nat.{ℕ};
-ghost use Rattle.checks.specs.Table.{row, answer};
-ghost use Rattle.blocks.specs.Blocks.{memoryId, blocksOf};
-ghost use Rattle.decide.specs.Request.{serves, requestOf, rightFor, offers, formFor, outsideOf};
-ghost use Rattle.decide.specs.Table.{callerRight, namesArea, mayDo, staysInside, outsideDetail, requestRows, decided};
+ghost use Prim.Native.Nat.{_+_, _*_};
+ghost use Rattle.octets.specs.Copy.{placed};
+ghost use Rattle.checks.specs.Verdict.{refusal};
+ghost use Rattle.blocks.specs.Blocks.{blocksOf};
+ghost use Rattle.decide.specs.Request.{serves, askedFor, memoryAsked, offers, rightFor, carriedBy, mostWords, outsideOf};
+ghost use Rattle.decide.specs.Table.{callerRight, requestDecision, serviceDecision, connectionDecision, memoryDecision, areaDecision, decisionOf};
+ghost use Rattle.decide.specs.Decision.{refusedBy, acceptedWith};
 
-// The verdict on a packet: 40, 41, the reader's checks, and then those of what the packet asks for.
-pub fn decide(profile: Profile, state: State, store: usize, out: usize, packet: &[u8]) -> Verdict
-    ensures { λ r. ⌜ r ≡ decided profile state store out (now (packet .entry)) ⌝ }
+// What goes from packet to packet besides the store.
+pub struct State {
+    pub counts: Counts,
+}
+
+// What a TC of service 6 asks for: (6,2), (6,5) or (6,9).
+pub enum Action {
+    Load,
+    Dump,
+    Check,
+}
+
+// What can be asked of a service.
+pub enum Request {
+    // Of service 6.
+    Memory(Action),
+    // Of service 17: (17,1).
+    Connection,
+}
+
+// What a type and subtype ask for, if they are known.
+pub enum Asked {
+    Known(Request),
+    Unknown,
+}
+
+// What service 6 is to do, and on which area.
+pub struct Job {
+    pub action: Action,
+    pub area: Area,
+}
+
+// What an accepted packet has the terminal do.
+pub enum Task {
+    Idle,
+    Memory(Job),
+    Connection,
+}
+
+// What was found on the way to acceptance, and is handed on: the task, the ack, and the part of the packet that is its application data.
+pub struct Work {
+    pub task: Task,
+    pub ack: u8,
+    pub data: Span,
+}
+
+// What is decided on a packet: the verdict, and the work of one that is accepted.
+pub struct Decision {
+    pub verdict: Verdict,
+    pub work: Work,
+}
+
+// The types of the services known.
+const MEMORY: u8 = 6;
+
+const CONNECTION: u8 = 17;
+
+// The fewest octets of an output buffer.
+const OUT_LEAST: usize = 4096;
+
+// The most words of a block of a dump, and of any other, as many as its field can say.
+const DUMP_MOST: u16 = 240;
+
+const FIELD_MOST: u16 = 65535;
+
+// The decision on a packet: 40, 41, the reader's checks, and then those of what the packet asks for.
+pub fn decide(profile: Profile, state: State, store: usize, out: usize, packet: &[u8]) -> Decision
+    ensures { λ r. ⌜ r ≡ decisionOf profile state store out (now (packet .entry)) ⌝ }
 {
-    if out < 4096 {
-        return Verdict::Buffer;
+    if out < OUT_LEAST {
+        return refuse(Check::Buffer, 0);
     }
-    let right = caller_right(profile, state, store);
+    if !caller_right(profile, state, store) {
+        return refuse(Check::Caller, 0);
+    }
     let reading = tc::reader::read(packet);
     let verdict = reading.verdict;
-    let read = checks::accepted(verdict);
-    if !right {
-        return Verdict::Caller;
+    if !checks::accepted(verdict) {
+        return refused(verdict);
     }
-    if !read {
-        return verdict;
+    judge_request(profile, reading.fields, reading.data, packet)
+}
+
+// The decision that a check failed.
+fn refuse(check: Check, detail: u16) -> Decision
+    ensures { λ r. ⌜ r ≡ refusedBy (Verdict.Refused (refusal check detail)) ⌝ }
+{
+    refused(checks::refuse(check, detail))
+}
+
+// A refusal has no work.
+fn refused(verdict: Verdict) -> Decision
+    ensures { λ r. ⌜ r ≡ refusedBy verdict ⌝ }
+{
+    Decision {
+        verdict,
+        work: Work {
+            task: Task::Idle,
+            ack: 0,
+            data: Span { from: 0, to: 0 },
+        },
     }
-    let fields = reading.fields;
-    judge_request(profile, fields, tc::reader::application(packet, verdict))
+}
+
+// The acceptance of a packet that has this to do.
+fn accepted(task: Task, ack: u8, data: Span) -> Decision
+    ensures { λ r. ⌜ r ≡ acceptedWith task ack «data» ⌝ }
+{
+    Decision {
+        verdict: Verdict::Accepted,
+        work: Work { task, ack, data },
+    }
 }
 
 // Check 41: what the caller hands in besides the output buffer.
@@ -45,175 +143,212 @@ fn caller_right(profile: Profile, state: State, store: usize) -> bool
     if !map::sound::store_allowed(store) {
         return false;
     }
-    if 16383 < state.reports {
-        return false;
-    }
-    state.services <= 16383
+    tm::counts::in_range(state.counts)
 }
 
-// Checks 0, 3, 4 and 5, and then those of service 6.
-fn judge_request(profile: Profile, fields: Fields, application: &[u8]) -> Verdict
-    ensures { λ r. ⌜ r ≡ answer Verdict.Accepted (requestRows profile fields (requestOf (fields .kind) (fields .subtype)) (now (application .entry))) ⌝ }
+// Checks 0, 3 and 4, and then those of the service asked.
+fn judge_request(profile: Profile, fields: Fields, data: Span, packet: &[u8]) -> Decision
+    ensures { λ r. ⌜ r ≡ requestDecision profile fields «data» (placed «data» (now (packet .entry))) ⌝ }
 {
-    let addressed = octets::fields::join_apid(profile.pid as u16, 12);
+    let addressed = octets::fields::join_apid(profile.pid as u16, tc::CATEGORY);
     if fields.apid != addressed {
-        return Verdict::Apid(fields.apid);
+        return refuse(Check::Apid, fields.apid);
     }
-    if !is_served(profile, fields.kind) {
-        return Verdict::Service(fields.kind as u16);
+    if !is_served(profile.flags, fields.kind) {
+        return refuse(Check::Service, fields.kind as u16);
     }
-    let request = request_of(fields.kind, fields.subtype);
-    if !is_offered(profile, request) {
-        return Verdict::Subtype((fields.kind as u16) * 256 + (fields.subtype as u16));
+    let asked = asked_for(fields.kind, fields.subtype);
+    if !is_offered(profile.flags, asked) {
+        return refuse(Check::Subtype, pair(fields.kind, fields.subtype));
     }
-    let form = form_for(request, application);
-    if let Form::Wrong(k) = form {
-        return Verdict::Form(k);
-    }
+    judge_service(profile, asked, fields.ack, data, packet)
+}
+
+// The checks of the service asked.
+fn judge_service(profile: Profile, asked: Asked, ack: u8, data: Span, packet: &[u8]) -> Decision
+    ensures { λ r. ⌜ r ≡ serviceDecision profile asked ack «data» (placed «data» (now (packet .entry))) ⌝ }
+{
+    let application = octets::copy::placed(packet, data);
+    let Asked::Known(request) = asked else {
+        return accepted(Task::Idle, ack, data);
+    };
     match request {
-        Request::Memory(action) => judge_memory(profile, action, application),
-        Request::Connection => Verdict::Accepted,
-        Request::Unknown => Verdict::Accepted,
+        Request::Memory(action) => judge_memory(profile, action, ack, data, application),
+        Request::Connection => judge_connection(ack, data, application),
     }
+}
+
+// A type and a subtype as one number.
+fn pair(kind: u8, subtype: u8) -> u16
+    ensures { λ r. ⌜ r ≡ kind * 256 + subtype ⌝ }
+{
+    (kind as u16) * octets::numbers::VALUES + (subtype as u16)
 }
 
 // What a type and subtype ask for.
-pub fn request_of(kind: u8, subtype: u8) -> Request
-    ensures { λ r. ⌜ r ≡ requestOf kind subtype ⌝ }
+fn asked_for(kind: u8, subtype: u8) -> Asked
+    ensures { λ r. ⌜ r ≡ askedFor kind subtype ⌝ }
 {
-    if kind == 6 {
-        if subtype == 2 {
-            return Request::Memory(Action::Load);
-        }
-        if subtype == 5 {
-            return Request::Memory(Action::Dump);
-        }
-        if subtype == 9 {
-            return Request::Memory(Action::Check);
-        }
-        return Request::Unknown;
+    if kind == MEMORY {
+        return memory_asked(subtype);
     }
-    if kind == 17 {
+    if kind == CONNECTION {
         if subtype == 1 {
-            return Request::Connection;
+            return Asked::Known(Request::Connection);
         }
-        return Request::Unknown;
     }
-    Request::Unknown
+    Asked::Unknown
+}
+
+// What a subtype of service 6 asks for.
+fn memory_asked(subtype: u8) -> Asked
+    ensures { λ r. ⌜ r ≡ memoryAsked subtype ⌝ }
+{
+    if subtype == 2 {
+        return Asked::Known(Request::Memory(Action::Load));
+    }
+    if subtype == 5 {
+        return Asked::Known(Request::Memory(Action::Dump));
+    }
+    if subtype == 9 {
+        return Asked::Known(Request::Memory(Action::Check));
+    }
+    Asked::Unknown
 }
 
 // Check 3: the type is 6 or 17, and a flag of it is set.
-fn is_served(profile: Profile, kind: u8) -> bool
-    ensures { λ r. ⌜ r ≡ serves profile kind ⌝ }
+fn is_served(flags: Flags, kind: u8) -> bool
+    ensures { λ r. ⌜ r ≡ serves flags kind ⌝ }
 {
-    if kind == 6 {
-        if profile.load {
+    if kind == MEMORY {
+        if flags.load {
             return true;
         }
-        if profile.dump {
+        if flags.dump {
             return true;
         }
-        return profile.check;
+        return flags.check;
     }
-    if kind == 17 {
-        return profile.connection;
+    if kind == CONNECTION {
+        return flags.connection;
     }
     false
 }
 
 // Check 4: the request is known, and its flag is on.
-fn is_offered(profile: Profile, request: Request) -> bool
-    ensures { λ r. ⌜ r ≡ offers profile request ⌝ }
+fn is_offered(flags: Flags, asked: Asked) -> bool
+    ensures { λ r. ⌜ r ≡ offers flags asked ⌝ }
 {
+    let Asked::Known(request) = asked else {
+        return false;
+    };
     match request {
         Request::Memory(action) => match action {
-            Action::Load => profile.load,
-            Action::Dump => profile.dump,
-            Action::Check => profile.check,
+            Action::Load => flags.load,
+            Action::Dump => flags.dump,
+            Action::Check => flags.check,
         },
-        Request::Connection => profile.connection,
-        Request::Unknown => false,
+        Request::Connection => flags.connection,
     }
 }
 
-// Check 5: the form of the application data that a request comes with.
-fn form_for(request: Request, application: &[u8]) -> Form
-    ensures { λ r. ⌜ r ≡ formFor request (now (application .entry)) ⌝ }
+// Service 17: check 5, there is no application data.
+fn judge_connection(ack: u8, data: Span, application: &[u8]) -> Decision
+    ensures { λ r. ⌜ r ≡ connectionDecision ack «data» (now (application .entry)) ⌝ }
 {
-    match request {
-        Request::Memory(action) => blocks::shape::form(action, application),
-        Request::Connection => blocks::shape::empty_form(application),
-        Request::Unknown => Form::Wrong(0),
+    if application.len() != 0 {
+        return refuse(Check::Form, 0);
     }
+    accepted(Task::Connection, ack, data)
 }
 
-// Checks 17, 18 and 19, which only service 6 has.
-fn judge_memory(profile: Profile, action: Action, application: &[u8]) -> Verdict
-    ensures { λ r. ⌜ (let d : List ℕ = now (application .entry) in
-        r ≡ answer Verdict.Accepted (
-        row (Verdict.Memory (memoryId d)) (namesArea profile (Request.Memory action) d)
-        ∷ row (Verdict.Right (memoryId d)) (mayDo profile (Request.Memory action) d)
-        ∷ row (Verdict.Outside (outsideDetail profile (Request.Memory action) d)) (staysInside profile (Request.Memory action) d)
-        ∷ [])) ⌝ }
+// Service 6: check 5 for the head and for the blocks, then 17, 18 and 19.
+fn judge_memory(
+    profile: Profile,
+    action: Action,
+    ack: u8,
+    data: Span,
+    application: &[u8],
+) -> Decision
+    ensures { λ r. ⌜ r ≡ memoryDecision profile action ack «data» (now (application .entry)) ⌝ }
 {
-    let id = octets::numbers::octet_at(application, 0);
-    let found = map::place::find(profile, id as u8);
+    if !blocks::shape::head_right(application) {
+        return refuse(Check::Form, 0);
+    }
+    let form = blocks::shape::form(carried_by(action), most_words(action), application);
+    if let Form::Wrong(k) = form {
+        return refuse(Check::Form, k);
+    }
+    let id = blocks::reading::memory_id(application);
+    let found = map::place::find(profile, id);
     let Found::At(area) = found else {
-        return Verdict::Memory(id);
+        return refuse(Check::Memory, id as u16);
     };
-    if !right_for(area, action) {
-        return Verdict::Right(id);
+    judge_area(area, action, ack, data, application)
+}
+
+// Checks 18 and 19 on the area that was found.
+fn judge_area(area: Area, action: Action, ack: u8, data: Span, application: &[u8]) -> Decision
+    ensures { λ r. ⌜ r ≡ areaDecision area action ack «data» (now (application .entry)) ⌝ }
+{
+    if !right_for(area.rights, action) {
+        let id = blocks::reading::memory_id(application);
+        return refuse(Check::Right, id as u16);
     }
-    let outside = first_outside(area, action, application);
+    let outside = first_outside(area, carried_by(action), application);
     if outside != 0 {
-        return Verdict::Outside(outside);
+        return refuse(Check::Outside, outside);
     }
-    Verdict::Accepted
+    accepted(Task::Memory(Job { action, area }), ack, data)
 }
 
 // The right in an area that an action needs.
-pub fn right_for(area: Area, action: Action) -> bool
-    ensures { λ r. ⌜ r ≡ rightFor area action ⌝ }
+fn right_for(rights: Rights, action: Action) -> bool
+    ensures { λ r. ⌜ r ≡ rightFor rights action ⌝ }
 {
     match action {
-        Action::Load => area.load,
-        Action::Dump => area.dump,
-        Action::Check => area.check,
+        Action::Load => rights.load,
+        Action::Dump => rights.dump,
+        Action::Check => rights.check,
     }
 }
 
-// The first block, from 1, that is not wholly inside an area; 0 where all are.
-fn first_outside(area: Area, action: Action, application: &[u8]) -> u16
-    ensures { λ r. ⌜ r ≡ outsideOf area (blocksOf action (now (application .entry))) ⌝ }
+// How many octets of the application data a word of a block is: a load carries its words, a dump and a check do not.
+pub fn carried_by(action: Action) -> u8
+    ensures { λ r. ⌜ r ≡ carriedBy action ⌝ }
 {
-    let count = octets::numbers::octet_at(application, 1);
-    let mut place: usize = 2;
-    let mut number: u16 = 1;
-    while number <= count {
-        let block = blocks::reading::block_at(action, application, place);
+    match action {
+        Action::Load => map::place::word_octets(),
+        Action::Dump => 0,
+        Action::Check => 0,
+    }
+}
+
+// The most words that a block may be long.
+fn most_words(action: Action) -> u16
+    ensures { λ r. ⌜ r ≡ mostWords action ⌝ }
+{
+    match action {
+        Action::Load => FIELD_MOST,
+        Action::Dump => DUMP_MOST,
+        Action::Check => FIELD_MOST,
+    }
+}
+
+// The first block, from 1, that is not wholly inside an area; 0 where all are. A word carries so many octets in the application data.
+fn first_outside(area: Area, carried: u8, application: &[u8]) -> u16
+    ensures { λ r. ⌜ r ≡ outsideOf area (blocksOf carried (now (application .entry))) ⌝ }
+{
+    let count = blocks::reading::block_count(application);
+    let mut place: usize = blocks::FIRST;
+    let mut i: u8 = 0;
+    while i < count {
+        let block = blocks::reading::block_at(carried, application, place);
         if !map::place::lies_inside(area, block.start, block.words as u32) {
-            return number;
+            return (i as u16) + 1;
         }
         place = block.next;
-        number += 1;
+        i += 1;
     }
     0
-}
-
-// The counts of the terminal's reports, one for each category.
-pub struct State {
-    // Of category 1: service 1.
-    pub reports: u16,
-    // Of category 9: services 6 and 17.
-    pub services: u16,
-}
-
-// What a packet asks for, by its type and subtype.
-pub enum Request {
-    // (6,2), (6,5) or (6,9).
-    Memory(blocks::Action),
-    // (17,1).
-    Connection,
-    // Anything else.
-    Unknown,
 }

@@ -1,80 +1,104 @@
 -- The inspector's first demand: "Bad packets, bad memory maps and short buffers are refused by the number in document 01. A refusal changes no memory word, and its reports and counters are those the table states." (That the terminal, reader and writer end on every input without a fault is what the check of each crate's code proves.)
 -- Assumes nothing.
-use mathlib.Core.Path.{_≡_, refl, ap}
-use mathlib.Core.Bool.{true, false, _||_}
-use mathlib.Core.Logic.{_⊎_, inl, inr, ⊎-elim}
-use mathlib.Core.List.{map, _∷_, List, [], _++_}
+use mathlib.Core.Path.{_≡_, refl, sym, ap, _∙_}
+use mathlib.Core.Bool.{Bool, true, false, false≢true}
+use mathlib.Core.Logic.{_⊎_}
+use mathlib.Core.List.{List, [], _∷_, _++_, map, append-nil}
+use Prim.Native.Nat.{ℕ}
 use lib.ListN.{length, drop}
-use lib.Dec.{eqb}
-use Rattle.octets.specs.Count.{nextCount}
+use Rattle.laws.specs.Each.{among}
+use Rattle.laws.specs.Fold.{joined}
+use Rattle.laws.proofs.Tests.{by-test}
+use Rattle.checks.specs.declared.Refusal.{Refusal}
 use Rattle.checks.specs.declared.Verdict.{Verdict}
-use Rattle.checks.specs.declared.Verdict.the-variants.{Accepted, Buffer, Caller, Short, Length, Control, Header, Apid, Service, Subtype, Form, Memory, Right, Outside}
-use Rattle.checks.specs.Verdict.{isAccepted, numberOf, detailOf}
+use Rattle.checks.specs.declared.Verdict.the-variants.{Accepted, Refused}
+use Rattle.checks.specs.Verdict.{checkNumber, isAccepted, numberOf, detailOf}
 use Rattle.checks.specs.Table.{Row, First, AllHold}
-use Rattle.checks.proofs.Table.{first-gives, all-give, answer-from}
-use Rattle.tm.specs.Frame.{frameOf}
-use Rattle.tm.specs.Source.{echoOf, failure}
+use Rattle.checks.proofs.Numbers.{silent-numbers, silent-refuses}
+use Rattle.checks.proofs.Table.{answer-from}
+use Rattle.checks.proofs.Verdicts.{first-refuses, all-accept}
+use Rattle.tc.specs.Layout.{fieldsOf, applicationOf}
 use Rattle.tc.specs.Reader.{readerRows}
-use Rattle.decide.specs.Table.{callerRows, requestRows, rows, decided, silent}
-use Rattle.terminal.specs.Reports.{refusal}
-use Rattle.demands.proofs.Refusals.{silent-refuses, refused-store, no-octets, same-counts, same-buffer, one-frame, one-count, frame-octets, frame-first}
-use Rattle.terminal.specs.Outcome.{Input, verdictOn, octetsDue, outcomeOf, outAfter, storeOn}
+use Rattle.map.specs.declared.Profile.{Profile}
+use Rattle.tm.specs.declared.counts.Counts.{Counts}
+use Rattle.tm.specs.Counts.{nextCount, categoryOf, countIn}
+use Rattle.tm.specs.Frame.{frameOf, stamped}
+use Rattle.tm.specs.Source.{echoOf, failure}
+use Rattle.decide.specs.declared.Request.the-variants.{Memory, Connection}
+use Rattle.decide.specs.declared.Asked.{Asked}
+use Rattle.decide.specs.declared.Asked.the-variants.{Known, Unknown}
+use Rattle.decide.specs.Table.{callerRows, areaRows, memoryRows, connectionRows, serviceRows, askedBy, requestRows, rows, decided}
+use Rattle.decide.proofs.Decided.{accepted-facts}
+use Rattle.terminal.specs.Outcome.{Input, verdictOn, framesDue, octetsDue, outcomeOf, outAfter, storeOn}
+use Rattle.terminal.proofs.Answering.{refused-store}
+use Rattle.terminal.proofs.Refusing.{no-frame, no-octets, same-state, same-buffer, one-frame, one-count, frame-octets, frame-first}
 
--- The table of all thirteen checks on an input.
-abbrev pub rowsOn : Input → List (Row Verdict)
+-- ---- by the number in document 01
+
+-- What a packet asks for.
+abbrev pub askedOn : Input → Asked
+askedOn i = askedBy (fieldsOf (i .packet))
+
+-- The table of checks on an input.
+abbrev pub rowsOn : Input → List (Row Refusal)
 rowsOn i = rows (i .profile) (i .state) (length (i .store)) (length (i .out)) (i .packet)
 
--- Their numbers, in checking order.
-pub table-numbers : (i : Input)
-    → map (λ (r : Row Verdict). numberOf (r .refusal)) (rowsOn i)
-    ≡ 40 ∷ 41 ∷ 42 ∷ 1 ∷ 2 ∷ 16 ∷ 0 ∷ 3 ∷ 4 ∷ 5 ∷ 17 ∷ 18 ∷ 19 ∷ []
+-- The numbers of some rows.
+abbrev pub numbersOf : List (Row Refusal) → List ℕ
+numbersOf table = map (λ (r : Row Refusal). checkNumber (r .refusal .check)) table
+
+-- The numbers of the checks that a service adds: for service 6 there is a 5 for the head of its data and one for the blocks.
+abbrev pub serviceNumbers : Asked → List ℕ
+serviceNumbers (Known (Memory action)) = 5 ∷ 5 ∷ 17 ∷ 18 ∷ 19 ∷ []
+serviceNumbers (Known Connection) = 5 ∷ []
+serviceNumbers Unknown = []
+
+service-numbers : (p : Profile) (asked : Asked) (d : List ℕ) → numbersOf (serviceRows p asked d) ≡ serviceNumbers asked
+unfolding memoryRows areaRows connectionRows
+service-numbers p (Known (Memory action)) d = refl
+service-numbers p (Known Connection) d = refl
+service-numbers p Unknown d = refl
+
+-- The table's numbers, in checking order.
+pub table-numbers : (i : Input) → numbersOf (rowsOn i) ≡ 40 ∷ 41 ∷ 42 ∷ 1 ∷ 2 ∷ 16 ∷ 0 ∷ 3 ∷ 4 ∷ serviceNumbers (askedOn i)
 unfolding rows callerRows readerRows requestRows
-table-numbers i = refl
+table-numbers i = rw (service-numbers (i .profile) (askedOn i) (applicationOf (i .packet)))
 
--- A row that is the first to fail gives the verdict.
-pub first-refuses : (i : Input) (r : Row Verdict) → First (rowsOn i) r → verdictOn i ≡ r .refusal
-unfolding decided
-first-refuses i r f = first-gives Accepted (rowsOn i) r f
+-- What is not known is never accepted: its table ends with 4.
+pub unknown-refused : (i : Input) → askedOn i ≡ Unknown → isAccepted (verdictOn i) ≡ false
+unknown-refused i e =
+    by-test (isAccepted (verdictOn i))
+    (λ t.
+    let offered = accepted-facts (i .profile) (i .state) (length (i .store)) (length (i .out)) (i .packet) t .offered in
+    absurd (false≢true (rw e at offered)))
+    (λ f. f)
 
--- A packet is accepted where every check holds; else the verdict is that of the first that fails.
-pub accepted-or-first : (i : Input)
-    → (AllHold (rowsOn i) × (verdictOn i ≡ Accepted)) ⊎ ((r : Row Verdict) × First (rowsOn i) r × (verdictOn i ≡ r .refusal))
+-- The table decides: its first row that fails gives the verdict, acceptance is given where every row holds, and it is always one or the other.
+pub record Decides (i : Input) : Type 0 where
+  pub refuses : (r : Row Refusal) → First (rowsOn i) r → verdictOn i ≡ Refused (r .refusal)
+  pub accepts : AllHold (rowsOn i) → verdictOn i ≡ Accepted
+  pub either : AllHold (rowsOn i) ⊎ ((r : Row Refusal) × First (rowsOn i) r)
+
+-- On every input.
+pub table-decides : (i : Input) → Decides i
 unfolding decided
-accepted-or-first i =
-    ⊎-elim
-    (λ (all : AllHold (rowsOn i)). inl (all, all-give Accepted (rowsOn i) all))
-    (λ (f : (r : Row Verdict) × First (rowsOn i) r). inr (f .0, f .1, first-gives Accepted (rowsOn i) (f .0) (f .1)))
-    (answer-from (rowsOn i))
+table-decides i = record { refuses = first-refuses (rowsOn i); accepts = all-accept (rowsOn i); either = answer-from (rowsOn i) }
+
+-- ---- memory
 
 -- A refusal changes no memory word.
 pub refusal-keeps-store : (i : Input) → isAccepted (verdictOn i) ≡ false → storeOn i ≡ i .store
-refusal-keeps-store = refused-store
+refusal-keeps-store i h = sym (refused-store i h)
 
 -- ---- 40, 41 and 42
 
--- The refusals without a frame are those numbered 40, 41 and 42.
-pub silent-numbers : (v : Verdict) → silent v ≡ (eqb (numberOf v) 40 || eqb (numberOf v) 41 || eqb (numberOf v) 42)
-silent-numbers Accepted = refl
-silent-numbers Buffer = refl
-silent-numbers Caller = refl
-silent-numbers Short = refl
-silent-numbers (Length d) = refl
-silent-numbers (Control d) = refl
-silent-numbers (Header d) = refl
-silent-numbers (Apid d) = refl
-silent-numbers (Service d) = refl
-silent-numbers (Subtype d) = refl
-silent-numbers (Form d) = refl
-silent-numbers (Memory d) = refl
-silent-numbers (Right d) = refl
-silent-numbers (Outside d) = refl
-
--- Each of these is a refusal.
-pub silent-is-refusal : (v : Verdict) → silent v ≡ true → isAccepted v ≡ false
-silent-is-refusal = silent-refuses
+-- The refusals without a frame, by their numbers.
+abbrev pub unreported : Verdict → Bool
+unreported v = among (numberOf v) (40 ∷ 41 ∷ 42 ∷ [])
 
 -- Nothing at all is changed.
 pub record Unchanged (i : Input) : Type 0 where
+  pub frames : framesDue i ≡ []
   pub octets : octetsDue i ≡ []
   pub written : outcomeOf i .written ≡ 0
   pub counts : outcomeOf i .state ≡ i .state
@@ -82,37 +106,48 @@ pub record Unchanged (i : Input) : Type 0 where
   pub buffer : outAfter i ≡ i .out
 
 -- 40, 41 and 42 give no frame, write 0 octets and change nothing.
-pub silent-changes-nothing : (i : Input) → silent (verdictOn i) ≡ true → Unchanged i
+pub silent-changes-nothing : (i : Input) → unreported (verdictOn i) ≡ true → Unchanged i
 unfolding outcomeOf
-silent-changes-nothing i h = record {
-  octets = no-octets i h;
-  written = ap length (no-octets i h);
-  counts = same-counts i h;
-  store = refused-store i (silent-refuses (verdictOn i) h);
-  buffer = same-buffer i h;
-}
+silent-changes-nothing i h =
+    let s = silent-numbers (verdictOn i) ∙ h in
+    record {
+      frames = no-frame i s;
+      octets = no-octets i s;
+      written = ap length (no-octets i s);
+      counts = same-state i s;
+      store = refusal-keeps-store i (silent-refuses (verdictOn i) s);
+      buffer = same-buffer i s;
+    }
 
 -- ---- any other refusal
 
--- One (1,2) of 24 octets, stamped with the count of category 1: the first four octets of the packet, code and detail. It stands at the front of the buffer, whose other octets stay; category 1 has advanced by one; category 9 and the store stay.
+-- The (1,2) of a packet, stamped with the count of category 1: the first four octets of the packet, code and detail.
+abbrev pub refusalFrame : Input → List ℕ
+refusalFrame i =
+    frameOf (record { pid = i .profile .pid; count = i .state .counts .reports; time = i .time; kind = 1; subtype = 2 })
+    (echoOf (i .packet) ++ failure (numberOf (verdictOn i)) (detailOf (verdictOn i)))
+
+-- One such frame, of 24 octets. It stands at the front of the buffer, whose other octets stay; category 1 has advanced by one; category 9 and the store stay.
 pub record Reported (i : Input) : Type 0 where
-  pub octets : octetsDue i
-      ≡ frameOf (record { pid = i .profile .pid; count = i .state .reports; time = i .time; kind = 1; subtype = 2 })
-      (echoOf (i .packet) ++ failure (numberOf (verdictOn i)) (detailOf (verdictOn i)))
+  pub frames : framesDue i ≡ refusalFrame i ∷ []
+  pub octets : octetsDue i ≡ refusalFrame i
   pub long : length (octetsDue i) ≡ 24
   pub written : outcomeOf i .written ≡ 24
-  pub counts : outcomeOf i .state ≡ record { reports = nextCount (i .state .reports); services = i .state .services }
+  pub counts : outcomeOf i .state ≡ record { counts = record { reports = nextCount (i .state .counts .reports); services = i .state .counts .services } }
   pub store : storeOn i ≡ i .store
   pub buffer : outAfter i ≡ octetsDue i ++ drop 24 (i .out)
 
 -- Any other refusal gives that frame, the time being six octets.
-pub refusal-reports : (i : Input) → isAccepted (verdictOn i) ≡ false → silent (verdictOn i) ≡ false → length (i .time) ≡ 6 → Reported i
-unfolding outcomeOf
-refusal-reports i r s six = record {
-  octets = one-frame i s r;
-  long = frame-octets i s r six;
-  written = frame-octets i s r six;
-  counts = one-count i s r;
-  store = refused-store i r;
-  buffer = frame-first i s r six;
-}
+pub refusal-reports : (i : Input) → isAccepted (verdictOn i) ≡ false → unreported (verdictOn i) ≡ false → length (i .time) ≡ 6 → Reported i
+unfolding outcomeOf stamped countIn categoryOf joined
+refusal-reports i r h six =
+    let s = silent-numbers (verdictOn i) ∙ h in
+    record {
+      frames = one-frame i r s;
+      octets = ap joined (one-frame i r s) ∙ append-nil (refusalFrame i);
+      long = frame-octets i r s six;
+      written = frame-octets i r s six;
+      counts = ap (λ (c : Counts). record { counts = c }) (one-count i r s);
+      store = refusal-keeps-store i r;
+      buffer = frame-first i r s six;
+    }

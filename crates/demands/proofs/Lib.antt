@@ -5,12 +5,11 @@ pub mod Demand2
 pub mod Demand3
 pub mod Determined
 pub mod Largest
-pub mod Laws
 pub mod Numbered
 pub mod Numbers
 pub mod Packets
 pub mod Parting
-pub mod Refusals
+pub mod Printed
 pub mod Rows
 pub mod StandIns
 pub mod Widened

@@ -1,98 +1,94 @@
 -- On one packet a refusal's number settles all of it, but for 19, whose detail depends on the profile.
 -- Assumes nothing.
-use mathlib.Core.Path.{_≡_, refl, sym, _∙_}
-use mathlib.Core.Logic.{_⊎_, inl, inr}
+use mathlib.Core.Path.{_≡_, refl, sym, ap, _∙_}
+use mathlib.Core.Logic.{_⊎_, inl, inr, ⊎-elim}
 use mathlib.Core.Bool.{true, false, cond, false≢true}
 use mathlib.Core.List.{List, [], _∷_}
-use Prim.Native.Nat.{ℕ, _+_, _*_, _≤_, min}
-use native.Mathlib.Omega.{arith}
-use lib.ListN.{length}
+use Prim.Native.Nat.{ℕ, _+_, _*_, _≤_}
 use lib.Dec.{eqb}
-use Rattle.checks.specs.declared.Verdict.{Verdict}
-use Rattle.checks.specs.declared.Verdict.the-variants.{Accepted, Buffer, Caller, Short, Length, Control, Header, Apid, Service, Subtype, Form, Memory, Right, Outside}
-use Rattle.checks.specs.Verdict.{isAccepted, numberOf}
-use Rattle.checks.specs.Table.{Row, answer}
-use Rattle.checks.proofs.Table.{by-test}
-use Rattle.tc.specs.Layout.{errorControl, covered, fieldsOf, applicationOf}
-use Rattle.tc.specs.Reader.{headerFault, readerRows}
+use Rattle.laws.specs.Each.{Each, among}
+use Rattle.laws.proofs.Tests.{by-test}
+use Rattle.checks.specs.declared.Check.the-variants.{Service, Subtype, Memory, Right, Outside}
+use Rattle.checks.specs.declared.Refusal.{Refusal}
+use Rattle.checks.specs.declared.Verdict.the-variants.{Refused}
+use Rattle.checks.specs.Table.{Row, First}
+use Rattle.checks.specs.Verdict.{checkNumber, isAccepted, numberOf, refusal, row}
+use Rattle.checks.proofs.Table.{first-row}
+use Rattle.checks.proofs.Verdicts.{refused-first}
+use Rattle.tc.specs.declared.Fields.{Fields}
+use Rattle.tc.specs.Layout.{fieldsOf, applicationOf}
+use Rattle.tc.specs.Reader.{readerRows}
 use Rattle.map.specs.declared.Profile.{Profile}
 use Rattle.map.specs.Wider.{wider}
+use Rattle.map.proofs.Widening.{widened}
 use Rattle.blocks.specs.Blocks.{memoryId}
 use Rattle.decide.specs.declared.State.{State}
-use Rattle.decide.specs.declared.Request.{Request}
-use Rattle.decide.specs.declared.Request.the-variants.{Memory as Asks, Connection, Unknown}
-use Rattle.decide.specs.Request.{formFor, formDetail}
-use Rattle.decide.specs.Table.{staysInside, outsideDetail, callerRows, requestRows, requestIn, rows, decided}
-use Rattle.demands.proofs.Widened.{widened, outside-later}
+use Rattle.decide.specs.declared.Action.{Action}
+use Rattle.decide.specs.declared.Request.the-variants.{Memory as Asks, Connection}
+use Rattle.decide.specs.declared.Asked.{Asked}
+use Rattle.decide.specs.declared.Asked.the-variants.{Known, Unknown}
+use Rattle.decide.specs.Request.{areaNamed}
+use Rattle.decide.specs.Table.{outsideNumber, allInside, callerRows, areaRows, memoryRows, connectionRows, serviceRows, askedBy, requestRows, rows, decided}
+use Rattle.demands.proofs.Widened.{outside-later}
+use Rattle.demands.proofs.Rows.{parts, same-verdict}
 
--- ---- tables
+-- ---- what a number that may part settles
 
--- The refusal of every row that fails has a property.
-unfoldable pub Failing : {A : Type 0} → (A → Type 0) → List (Row A) → Type 0
-Failing P [] = Unit
-Failing P (r ∷ rest) = (r .holds ≡ false → P (r .refusal)) × Failing P rest
+-- The number of a row's refusal.
+abbrev number : Row Refusal → ℕ
+number x = checkNumber (x .refusal .check)
 
--- So has the answer, where the one for no failure has it.
-pub answer-has : {A : Type 0} (P : A → Type 0) (fine : A) (table : List (Row A)) → P fine → Failing P table → P (answer fine table)
-unfolding Failing answer
-answer-has P fine [] f h = f
-answer-has P fine (r ∷ table) f h =
-    by-test (r .holds) (λ t. rw t (answer-has P fine table f (h .1))) (λ e. rw e (h .0 e))
+-- The refusal by 3, 4, 17 or 18 of a packet with those fields and that application data.
+named : Fields → List ℕ → ℕ → Refusal
+named f d n =
+    cond (eqb n 3) (refusal Service (f .kind))
+    (cond (eqb n 4) (refusal Subtype (f .kind * 256 + f .subtype))
+    (cond (eqb n 17) (refusal Memory (memoryId d)) (refusal Right (memoryId d))))
 
--- ---- the refusal with a number
+-- The row of 19.
+abbrev outsideRow : Profile → Action → List ℕ → Row Refusal
+outsideRow p action d = row Outside (outsideNumber (areaNamed p d) action d) (allInside (areaNamed p d) action d)
 
--- The refusal of a packet with a number other than 19.
-named : List ℕ → ℕ → Verdict
-named packet n =
-    cond (eqb n 40) Buffer
-    (cond (eqb n 41) Caller
-    (cond (eqb n 42) Short
-    (cond (eqb n 1) (Length (min (length packet) 65535))
-    (cond (eqb n 2) (Control (errorControl (covered packet)))
-    (cond (eqb n 16) (Header (headerFault packet))
-    (cond (eqb n 0) (Apid (fieldsOf packet .apid))
-    (cond (eqb n 3) (Service (fieldsOf packet .kind))
-    (cond (eqb n 4) (Subtype (fieldsOf packet .kind * 256 + fieldsOf packet .subtype))
-    (cond (eqb n 5) (Form (formDetail (formFor (requestIn packet) (applicationOf packet))))
-    (cond (eqb n 17) (Memory (memoryId (applicationOf packet)))
-    (Right (memoryId (applicationOf packet)))))))))))))
+-- A row is settled by its number, where that may part: for 19 by the action asked, and then the whole row; else the refusal.
+record Settled (p : Profile) (f : Fields) (asked : Asked) (d : List ℕ) (x : Row Refusal) : Type 0 where
+  outside : eqb (number x) 19 ≡ true → (action : Action) × (asked ≡ Known (Asks action)) × (x ≡ outsideRow p action d)
+  other : eqb (number x) 19 ≡ false → parts (Refused (x .refusal)) ≡ true → x .refusal ≡ named f d (number x)
 
--- The block number of 19.
-abbrev blockNumber : Profile → List ℕ → ℕ
-blockNumber p packet = outsideDetail p (requestIn packet) (applicationOf packet)
+module _ {p : Profile} {f : Fields} {asked : Asked} {d : List ℕ} {x : Row Refusal} (e : eqb (number x) 19 ≡ false) where
+  -- A row whose number may not part.
+  unparted : parts (Refused (x .refusal)) ≡ false → Settled p f asked d x
+  unparted h = record { outside = λ t. absurd (false≢true (sym e ∙ t)); other = λ _ t. absurd (false≢true (sym h ∙ t)) }
 
--- A refusal is the one with its number.
-Settled : Profile → List ℕ → Verdict → Type 0
-Settled p packet v =
-    isAccepted v ≡ false → v ≡ cond (eqb (numberOf v) 19) (Outside (blockNumber p packet)) (named packet (numberOf v))
+  -- A row of 3, 4, 17 or 18.
+  refusing : x .refusal ≡ named f d (number x) → Settled p f asked d x
+  refusing h = record { outside = λ t. absurd (false≢true (sym e ∙ t)); other = λ _ _. h }
 
-settled : (p : Profile) (state : State) (store out : ℕ) (packet : List ℕ) → Settled p packet (decided p state store out packet)
-unfolding Settled Failing named decided rows callerRows readerRows requestRows
+-- Every row of the service asked is settled.
+service-settled : (p : Profile) (f : Fields) (asked : Asked) (d : List ℕ) → Each (Settled p f asked d) (serviceRows p asked d)
+unfolding memoryRows areaRows connectionRows among named
+service-settled p f (Known (Asks action)) d =
+    (unparted refl refl, (unparted refl refl, (refusing refl refl, (refusing refl refl, (record { outside = λ _. (action, refl, refl); other = λ e. absurd (false≢true (sym e)) }, tt)))))
+service-settled p f (Known Connection) d = (unparted refl refl, tt)
+service-settled p f Unknown d = tt
+
+-- So is every row of a packet's table.
+settled : (p : Profile) (state : State) (store out : ℕ) (packet : List ℕ)
+    → Each (Settled p (fieldsOf packet) (askedBy (fieldsOf packet)) (applicationOf packet)) (rows p state store out packet)
+unfolding rows callerRows readerRows requestRows among named
 settled p state store out packet =
-    answer-has (Settled p packet) Accepted (rows p state store out packet) (λ h. absurd (false≢true (sym h))) ((λ _ _. refl), ((λ _ _. refl), ((λ _ _. refl), ((λ _ _. refl), ((λ _ _. refl), ((λ _ _. refl), ((λ _ _. refl), ((λ _ _. refl), ((λ _ _. refl), ((λ _ _. refl), ((λ _ _. refl), ((λ _ _. refl), ((λ _ _. refl), tt)))))))))))))
-
--- ---- 19
-
--- 19 is given only where a block is outside.
-Outer : Profile → List ℕ → Verdict → Type 0
-Outer p packet v = eqb (numberOf v) 19 ≡ true → staysInside p (requestIn packet) (applicationOf packet) ≡ false
-
-other : {X : Type 0} → false ≡ true → X
-other h = absurd (false≢true h)
-
-outer : (p : Profile) (state : State) (store out : ℕ) (packet : List ℕ) → Outer p packet (decided p state store out packet)
-unfolding Outer Failing decided rows callerRows readerRows requestRows
-outer p state store out packet =
-    answer-has (Outer p packet) Accepted (rows p state store out packet) other ((λ _. other), ((λ _. other), ((λ _. other), ((λ _. other), ((λ _. other), ((λ _. other), ((λ _. other), ((λ _. other), ((λ _. other), ((λ _. other), ((λ _. other), ((λ _. other), ((λ e _. e), tt)))))))))))))
+    (unparted refl refl, (unparted refl refl, (unparted refl refl, (unparted refl refl, (unparted refl refl, (unparted refl refl, (unparted refl refl, (refusing refl refl, (refusing refl refl, service-settled p (fieldsOf packet) (askedBy (fieldsOf packet)) (applicationOf packet))))))))))
 
 -- ---- two profiles
 
-later : (wide narrow : Profile) (octets : ℕ) (request : Request) (application : List ℕ) → wider wide narrow octets ≡ true
-    → staysInside wide request application ≡ false → outsideDetail narrow request application ≤ outsideDetail wide request application
-later wide narrow octets (Asks action) application w h =
-    outside-later action application (widened wide narrow octets (memoryId application) w) h
-later wide narrow octets Connection application w h = omega arith
-later wide narrow octets Unknown application w h = omega arith
+-- The row that a refusal comes from.
+refused-row : (p : Profile) (state : State) (store out : ℕ) (packet : List ℕ) → isAccepted (decided p state store out packet) ≡ false
+    → (r : Row Refusal) × (decided p state store out packet ≡ Refused (r .refusal))
+    × Settled p (fieldsOf packet) (askedBy (fieldsOf packet)) (applicationOf packet) r × (r .holds ≡ false)
+unfolding decided
+refused-row p state store out packet h =
+    let f = refused-first (rows p state store out packet) h in
+    let s = first-row _ (rows p state store out packet) (f .0) (settled p state store out packet) (f .1) in
+    (f .0, f .2, s .0, s .1)
 
 -- Two refusals of one packet with the same number are the same, or both 19, the wider's with no smaller block number.
 pub same-number : (wide narrow : Profile) (state : State) (store out : ℕ) (packet : List ℕ)
@@ -101,18 +97,30 @@ pub same-number : (wide narrow : Profile) (state : State) (store out : ℕ) (pac
     → isAccepted (decided wide state store out packet) ≡ false
     → numberOf (decided narrow state store out packet) ≡ numberOf (decided wide state store out packet)
     → (decided wide state store out packet ≡ decided narrow state store out packet)
-    ⊎ ((k : ℕ) × (m : ℕ) × (decided narrow state store out packet ≡ Outside k) × (decided wide state store out packet ≡ Outside m) × (k ≤ m))
-unfolding Settled Outer
+    ⊎ ((k : ℕ) × (m : ℕ) × (decided narrow state store out packet ≡ Refused (refusal Outside k)) × (decided wide state store out packet ≡ Refused (refusal Outside m)) × (k ≤ m))
 same-number wide narrow state store out packet w n v e =
-    let sn : decided narrow state store out packet ≡ _ = settled narrow state store out packet n in
-    let sw : decided wide state store out packet ≡ _ = settled wide state store out packet v in
-    by-test (eqb (numberOf (decided wide state store out packet)) 19)
+    let f = fieldsOf packet in
+    let d : List ℕ = applicationOf packet in
+    let x = refused-row narrow state store out packet n in
+    let y = refused-row wide state store out packet v in
+    let same : number (y .0) ≡ number (x .0) = ap numberOf (sym (y .1)) ∙ sym e ∙ ap numberOf (x .1) in
+    by-test (parts (decided narrow state store out packet))
     (λ t.
+    by-test (eqb (number (x .0)) 19)
+    (λ q.
+    let here = x .2 .outside q in
+    let there = y .2 .outside (rw same q) in
+    let action : there .0 ≡ here .0 = cc (here .1, there .1) in
+    let row-is : y .0 ≡ outsideRow wide (here .0) d = rw action at (there .2) in
     inr (
-      blockNumber narrow packet,
-      blockNumber wide packet,
-      rw (e, t) at sn,
-      rw t at sw,
-      later wide narrow store (requestIn packet) (applicationOf packet) w (outer wide state store out packet t),
+      outsideNumber (areaNamed narrow d) (here .0) d,
+      outsideNumber (areaNamed wide d) (here .0) d,
+      x .1 ∙ ap (λ (r : Row Refusal). Refused (r .refusal)) (here .2),
+      y .1 ∙ ap (λ (r : Row Refusal). Refused (r .refusal)) row-is,
+      outside-later (here .0) d (widened wide narrow store (memoryId d) w) (ap (λ (r : Row Refusal). r .holds) (sym row-is) ∙ y .3),
     ))
-    (λ f. inl ((rw f at sw) ∙ sym (rw (e, f) at sn)))
+    (λ q.
+    let one : x .0 .refusal ≡ named f d (number (x .0)) = x .2 .other q (ap parts (sym (x .1)) ∙ t) in
+    let two : y .0 .refusal ≡ named f d (number (y .0)) = y .2 .other (rw same q) (rw same (ap parts (sym (x .1)) ∙ t)) in
+    inl (y .1 ∙ ap Refused (two ∙ ap (named f d) same ∙ sym one) ∙ sym (x .1))))
+    (λ u. inl (same-verdict wide narrow store w state out packet u))

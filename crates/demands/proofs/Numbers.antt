@@ -5,22 +5,24 @@ use mathlib.Core.Bool.{Bool, true, false, cond}
 use mathlib.Core.List.{List, [], _∷_, _++_}
 use Prim.Native.Nat.{ℕ}
 use lib.ListN.{length, replicate}
-use Rattle.octets.specs.Count.{nextCount}
+use Rattle.laws.specs.Each.{Each}
 use Rattle.crc.specs.Register.{crcOf}
 use Rattle.checks.specs.declared.Verdict.{Verdict}
 use Rattle.checks.specs.Verdict.{isAccepted, numberOf, detailOf}
 use Rattle.tc.specs.Reader.{lengthRight}
+use Rattle.map.specs.Made.{allFlags, areaOf, profileWith}
 use Rattle.map.specs.Place.{inside}
-use Rattle.blocks.specs.declared.Action.the-variants.{Dump}
 use Rattle.blocks.specs.declared.Form.{Form}
 use Rattle.blocks.specs.declared.Form.the-variants.{Right, Wrong}
-use Rattle.blocks.specs.Each.{Each}
 use Rattle.blocks.specs.Form.{formOf}
+use Rattle.tm.specs.Counts.{nextCount}
 use Rattle.decide.specs.declared.State.{State}
+use Rattle.decide.specs.declared.Action.the-variants.{Dump}
+use Rattle.decide.specs.Request.{carriedBy, mostWords}
 use Rattle.terminal.specs.Outcome.{verdictOn, octetsDue, outcomeOf}
-use Rattle.terminal.specs.Examples.{lineArea, lineInput, firstLine, secondLine}
+use Rattle.hexline.specs.Unit.{lineArea}
 use Rattle.demands.proofs.Computing.{all}
-use Rattle.demands.proofs.Packets.{command, block, areaOf, oneArea, twoAreas, from, over}
+use Rattle.demands.proofs.Packets.{command, block, firstLine, secondLine, from, lineInput, over}
 
 -- A test's answer as a number.
 abbrev pub digit : Bool → ℕ
@@ -38,7 +40,7 @@ malformed (Wrong k) = k ∷ []
 
 -- The counts of categories 1 and 9.
 abbrev pub counts : State → List ℕ
-counts s = s .reports ∷ s .services ∷ []
+counts s = s .counts .reports ∷ s .counts .services ∷ []
 
 -- A row: which number of document 01 it belongs to, what the definitions give, and what must come out.
 pub record Held : Type 0 where
@@ -46,6 +48,7 @@ pub record Held : Type 0 where
   pub given : List ℕ
   pub due : List ℕ
 
+-- A row put together.
 abbrev pub held : ℕ → List ℕ → List ℕ → Held
 held number given due = record { number = number; given = given; due = due }
 
@@ -84,8 +87,8 @@ listing =
     ∷ held 6 (length (command 6 2 (1 ∷ 1 ∷ (block 0x1000 114 ++ replicate 228 0xA5))) ∷ digit (lengthRight (command 6 2 (1 ∷ 1 ∷ (block 0x1000 114 ++ replicate 228 0xA5)))) ∷ []) (248 ∷ 1 ∷ [])
     ∷ held 6 (length (command 6 2 (1 ∷ 1 ∷ (block 0x1000 115 ++ replicate 230 0xA5))) ∷ told (verdictOn (lineInput (from 0 0) (command 6 2 (1 ∷ 1 ∷ (block 0x1000 115 ++ replicate 230 0xA5)))))) (250 ∷ 1 ∷ 250 ∷ [])
     -- P7: a dump of 240 words and of 241.
-    ∷ held 7 (malformed (formOf Dump (1 ∷ 1 ∷ block 0x1000 240))) []
-    ∷ held 7 (malformed (formOf Dump (1 ∷ 1 ∷ block 0x1000 241))) (1 ∷ [])
+    ∷ held 7 (malformed (formOf (carriedBy Dump) (mostWords Dump) (1 ∷ 1 ∷ block 0x1000 240))) []
+    ∷ held 7 (malformed (formOf (carriedBy Dump) (mostWords Dump) (1 ∷ 1 ∷ block 0x1000 241))) (1 ∷ [])
     ∷ held 7 (told (verdictOn (lineInput (from 0 0) (command 6 5 (1 ∷ 1 ∷ block 0x1000 241))))) (5 ∷ 1 ∷ [])
     -- P8: inside the area, and not.
     ∷ held 8 (digit (inside lineArea 0x103F 1) ∷ []) (1 ∷ [])
@@ -94,11 +97,11 @@ listing =
     ∷ held 8 (digit (inside lineArea 0x0FFF 1) ∷ []) (0 ∷ [])
     ∷ held 8 (digit (inside lineArea 0xFFFFFFFF 1) ∷ []) (0 ∷ [])
     -- P9: areas at store words 0 to 63 and 63 to 70.
-    ∷ held 9 (told (verdictOn (over (twoAreas (areaOf 1 0x1000 64 0) (areaOf 2 0x2000 8 63)) 256 firstLine))) (41 ∷ 0 ∷ [])
+    ∷ held 9 (told (verdictOn (over (profileWith 5 allFlags (areaOf 1 0x1000 64 0 ∷ areaOf 2 0x2000 8 63 ∷ [])) 256 firstLine))) (41 ∷ 0 ∷ [])
     -- P10: a check of three blocks, by the line program, and over a store of 256 octets by its area and by the longer one.
     ∷ held 10 (told (verdictOn (lineInput (from 0 0) (command 6 9 (1 ∷ 3 ∷ (block 0x1000 1 ++ block 0x1050 1 ++ block 0x1090 1)))))) (19 ∷ 2 ∷ [])
-    ∷ held 10 (told (verdictOn (over (oneArea (areaOf 1 0x1000 64 0)) 256 (command 6 9 (1 ∷ 3 ∷ (block 0x1000 1 ++ block 0x1050 1 ++ block 0x1090 1)))))) (19 ∷ 2 ∷ [])
-    ∷ held 10 (told (verdictOn (over (oneArea (areaOf 1 0x1000 128 0)) 256 (command 6 9 (1 ∷ 3 ∷ (block 0x1000 1 ++ block 0x1050 1 ++ block 0x1090 1)))))) (19 ∷ 3 ∷ [])
+    ∷ held 10 (told (verdictOn (over (profileWith 5 allFlags (areaOf 1 0x1000 64 0 ∷ [])) 256 (command 6 9 (1 ∷ 3 ∷ (block 0x1000 1 ++ block 0x1050 1 ++ block 0x1090 1)))))) (19 ∷ 2 ∷ [])
+    ∷ held 10 (told (verdictOn (over (profileWith 5 allFlags (areaOf 1 0x1000 128 0 ∷ [])) 256 (command 6 9 (1 ∷ 3 ∷ (block 0x1000 1 ++ block 0x1050 1 ++ block 0x1090 1)))))) (19 ∷ 3 ∷ [])
     ∷ []
 
 -- Every row holds.

@@ -5,34 +5,26 @@ use mathlib.Core.Bool.{true, false}
 use mathlib.Core.List.{List, [], _∷_, _++_}
 use Prim.Native.Nat.{ℕ, _<_}
 use native.Mathlib.Omega.{arith}
+use Rattle.laws.specs.Each.{Each}
 use Rattle.octets.specs.Numbers.{octet}
 use Rattle.map.specs.declared.Profile.{Profile}
+use Rattle.map.specs.Made.{allFlags, areaOf, areaWith, profileWith}
 use Rattle.map.specs.Wider.{wider}
-use Rattle.blocks.specs.Each.{Each}
 use Rattle.terminal.specs.Outcome.{verdictOn, storeOn}
 use Rattle.terminal.specs.Run.{placeOn}
-use Rattle.terminal.specs.Examples.{noArea}
 use Rattle.demands.proofs.Computing.{all}
-use Rattle.demands.proofs.Packets.{command, block, areaOf, twoAreas, over}
+use Rattle.demands.proofs.Packets.{command, block, over}
 use Rattle.demands.proofs.Numbers.{told}
 
 -- The narrower: flags load and check; one area, ID 1, start 1000 hex, 64 words, store word 0, without the right to check.
 abbrev pub narrow : Profile
-narrow = record {
-  pid = 5;
-  load = true;
-  dump = false;
-  check = true;
-  connection = false;
-  count = 1;
-  areas =
-      record { id = 1; start = 0x1000; length = 64; first = 0; load = true; dump = true; check = false }
-      ∷ noArea ∷ noArea ∷ noArea ∷ noArea ∷ noArea ∷ noArea ∷ noArea ∷ [];
-}
+narrow =
+    profileWith 5 (record { load = true; dump = false; check = true; connection = false })
+    (areaWith (record { load = true; dump = true; check = false }) 1 0x1000 64 0 ∷ [])
 
 -- The wider: all flags; area 1 of 128 words with all rights, and an area 2.
 abbrev pub wide : Profile
-wide = twoAreas (areaOf 1 0x1000 128 0) (areaOf 2 0x2000 8 128)
+wide = profileWith 5 allFlags (areaOf 1 0x1000 128 0 ∷ areaOf 2 0x2000 8 128 ∷ [])
 
 -- Over a store of 512 octets the one is wider than the other, and not the other way round.
 pub strictly-wider : (wider wide narrow 512 ≡ true) × (wider narrow wide 512 ≡ false)
@@ -45,6 +37,7 @@ pub record Case : Type 0 where
   pub narrower : List ℕ
   pub wider : List ℕ
 
+-- A case put together.
 abbrev pub parting : List ℕ → List ℕ → List ℕ → Case
 parting packet narrower wider = record { packet = packet; narrower = narrower; wider = wider }
 

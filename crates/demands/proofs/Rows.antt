@@ -1,141 +1,124 @@
--- The tables of checks of a narrower profile and of a wider one, side by side, row by row.
+-- The tables of checks of a narrower profile and of a wider one for one packet, side by side, row by row.
 -- Assumes nothing.
 use mathlib.Core.Path.{_≡_, refl, sym, _∙_}
 use mathlib.Core.Bool.{Bool, true, false, _||_, false≢true}
 use mathlib.Core.List.{List, [], _∷_, _++_}
-use Prim.Native.Nat.{ℕ}
+use Prim.Native.Nat.{ℕ, _≤_}
 use lib.Dec.{eqb}
+use Rattle.laws.specs.Each.{among}
+use Rattle.laws.proofs.Tests.{by-test}
 use Rattle.octets.specs.Fields.{apidOf}
+use Rattle.checks.specs.declared.Refusal.{Refusal}
 use Rattle.checks.specs.declared.Verdict.{Verdict}
-use Rattle.checks.specs.declared.Verdict.the-variants.{Accepted, Service, Subtype, Memory, Right, Outside}
-use Rattle.checks.specs.Table.{Row, row}
-use Rattle.checks.proofs.Table.{by-test, Grown, Beside, none, more}
+use Rattle.checks.specs.declared.Verdict.the-variants.{Accepted, Refused}
+use Rattle.checks.specs.Table.{Row, place}
+use Rattle.checks.specs.Verdict.{numberOf}
+use Rattle.checks.proofs.Table.{Beside, none, more, same-row, parting-row, beside-self, beside-append, beside-later, beside-same}
 use Rattle.tc.specs.declared.Fields.{Fields}
-use Rattle.tc.specs.Layout.{fieldsOf, applicationOf}
+use Rattle.tc.specs.Layout.{category, fieldsOf, applicationOf}
 use Rattle.tc.specs.Reader.{readerRows}
+use Rattle.map.specs.declared.Flags.{Flags}
 use Rattle.map.specs.declared.Profile.{Profile}
 use Rattle.map.specs.Wider.{wider}
-use Rattle.map.proofs.Widening.{WiderFacts, wider-facts}
-use Rattle.blocks.specs.declared.Action.{Action}
-use Rattle.blocks.specs.declared.Action.the-variants.{Load, Dump, Check}
+use Rattle.map.proofs.Keeping.{KeptFlags, flags-kept}
+use Rattle.map.proofs.Widening.{WiderFacts, wider-facts, Widened, widened}
 use Rattle.blocks.specs.Blocks.{memoryId}
 use Rattle.decide.specs.declared.State.{State}
-use Rattle.decide.specs.declared.Request.{Request}
-use Rattle.decide.specs.declared.Request.the-variants.{Memory as Asks, Connection, Unknown}
-use Rattle.decide.specs.Request.{serves, flagFor, offers}
-use Rattle.decide.specs.Table.{callerRight, namesArea, mayDo, staysInside, callerRows, requestRows, requestIn, rows}
-use Rattle.demands.proofs.Widened.{widened, found-grows, right-grows, inside-grows}
+use Rattle.decide.specs.declared.Action.{Action}
+use Rattle.decide.specs.declared.Action.the-variants.{Load, Dump, Check}
+use Rattle.decide.specs.declared.Request.the-variants.{Memory, Connection}
+use Rattle.decide.specs.declared.Asked.{Asked}
+use Rattle.decide.specs.declared.Asked.the-variants.{Known, Unknown}
+use Rattle.decide.specs.Request.{memoryType, connectionType, serves, flagFor, offers, areaNamed}
+use Rattle.decide.specs.Table.{callerRight, callerRows, areaRows, memoryRows, connectionRows, serviceRows, askedBy, requestRows, rows, decided}
+use Rattle.demands.proofs.Widened.{found-grows, right-grows, inside-grows}
 
--- ---- tables side by side
-
-module _ {A : Type 0} {parts : A → Bool} where
-  pub beside-append : {ns ws ms vs : List (Row A)} → Beside parts ns ws → Beside parts ms vs → Beside parts (ns ++ ms) (ws ++ vs)
-  beside-append none rest = rest
-  beside-append (more g first) rest = more g (beside-append first rest)
-
-  -- A row that holds in the one where it holds in the other, with the same refusal.
-  pub same-row : (refusal : A) {narrow wide : Bool} → wide ≡ narrow → Grown parts (row refusal narrow) (row refusal wide)
-  same-row refusal e = record { grows = λ h. e ∙ h; keeps = λ _. (e, refl) }
-
-  -- A row that may part, and that holds in the wider where it holds in the narrower.
-  pub parting-row : (refusal other : A) {narrow wide : Bool} → parts refusal ≡ true → (narrow ≡ true → wide ≡ true)
-      → Grown parts (row refusal narrow) (row other wide)
-  parting-row refusal other p g = record { grows = g; keeps = λ q. absurd (false≢true (sym q ∙ p)) }
-
-  pub beside-self : (table : List (Row A)) → Beside parts table table
-  beside-self [] = none
-  beside-self (r ∷ table) = more (same-row (r .refusal) refl) (beside-self table)
-
--- ---- what a wider profile offers
+-- ---- what wider flags offer
 
 or-grows : (a b c d : Bool) → (a ≡ true → c ≡ true) → (b ≡ true → d ≡ true) → a || b ≡ true → c || d ≡ true
 or-grows true b c d f g h = rw (f refl)
 or-grows false b true d f g h = refl
 or-grows false b false d f g h = g h
 
+module _ (wide narrow : Flags) (kept : KeptFlags wide narrow) where
+  serves-grows : (kind : ℕ) → serves narrow kind ≡ true → serves wide kind ≡ true
+  unfolding serves
+  serves-grows kind h =
+      by-test (eqb kind memoryType)
+      (λ t. rw t (or-grows _ _ _ _ (or-grows _ _ _ _ (kept .load) (kept .dump)) (kept .check) (rw t at h)))
+      (λ f.
+      by-test (eqb kind connectionType)
+      (λ t. rw (f, t) (kept .connection (rw (f, t) at h)))
+      (λ g. absurd (false≢true (rw (f, g) at h))))
+
+  flag-grows : (action : Action) → flagFor narrow action ≡ true → flagFor wide action ≡ true
+  flag-grows Load = kept .load
+  flag-grows Dump = kept .dump
+  flag-grows Check = kept .check
+
+  offers-grows : (asked : Asked) → offers narrow asked ≡ true → offers wide asked ≡ true
+  offers-grows (Known (Memory action)) = flag-grows action
+  offers-grows (Known Connection) = kept .connection
+  offers-grows Unknown = λ h. h
+
+-- ---- the whole table
+
+-- The refusals by which two profiles may part: 3, 4, 17, 18 and 19. Acceptance, which has no number and counts as 0, is none of them.
+abbrev pub parts : Verdict → Bool
+parts v = among (numberOf v) (3 ∷ 4 ∷ 17 ∷ 18 ∷ 19 ∷ [])
+
+-- Two tables side by side, where the rows of those refusals may part.
+abbrev Together : List (Row Refusal) → List (Row Refusal) → Type 0
+Together narrow wide = Beside (λ r. parts (Refused r)) narrow wide
+
 module _ (wide narrow : Profile) (octets : ℕ) (w : wider wide narrow octets ≡ true) where
   facts : WiderFacts wide narrow octets
   facts = wider-facts wide narrow octets w
 
-  caller-same : (state : State) → callerRight wide state octets ≡ callerRight narrow state octets
-  unfolding callerRight
-  caller-same state = rw (facts .wide-sound, facts .narrow-sound)
+  kept : KeptFlags (wide .flags) (narrow .flags)
+  kept = flags-kept (wide .flags) (narrow .flags) (facts .flags)
 
-  apid-same : (apid : ℕ) → eqb apid (apidOf (wide .pid) 12) ≡ eqb apid (apidOf (narrow .pid) 12)
-  apid-same apid = rw (facts .pid)
+  caller-beside : (state : State) (out : ℕ) → Together (callerRows narrow state octets out) (callerRows wide state octets out)
+  unfolding callerRows callerRight
+  caller-beside state out =
+      let right : callerRight wide state octets ≡ callerRight narrow state octets = rw (facts .wide-sound, facts .narrow-sound) in
+      more (same-row refl refl) (more (same-row refl right) none)
 
-  serves-grows : (kind : ℕ) → serves narrow kind ≡ true → serves wide kind ≡ true
-  unfolding serves
-  serves-grows kind h =
-      by-test (eqb kind 6)
-      (λ t.
-      rw t
-      (or-grows _ _ _ _ (or-grows _ _ _ _ (facts .load) (facts .dump)) (facts .check) (rw t at h)))
-      (λ f.
-      by-test (eqb kind 17)
-      (λ t. rw (f, t) (facts .connection (rw (f, t) at h)))
-      (λ g. absurd (false≢true (rw (f, g) at h))))
+  -- The rows of each service, by what is asked.
+  service-beside : (asked : Asked) (d : List ℕ) → Together (serviceRows narrow asked d) (serviceRows wide asked d)
+  unfolding memoryRows areaRows among
+  service-beside (Known (Memory action)) d =
+      let found : Widened (areaNamed narrow d) (areaNamed wide d) = widened wide narrow octets (memoryId d) w in
+      more (same-row refl refl)
+      (more (same-row refl refl)
+      (more (parting-row refl (found-grows found))
+      (more (parting-row refl (right-grows action found))
+      (more (parting-row refl (inside-grows action d found)) none))))
+  service-beside (Known Connection) d = beside-self (connectionRows d)
+  service-beside Unknown d = none
 
-  flag-grows : (action : Action) → flagFor narrow action ≡ true → flagFor wide action ≡ true
-  flag-grows Load = facts .load
-  flag-grows Dump = facts .dump
-  flag-grows Check = facts .check
+  request-beside : (f : Fields) (d : List ℕ) → Together (requestRows narrow f d) (requestRows wide f d)
+  unfolding requestRows among
+  request-beside f d =
+      let apid : eqb (f .apid) (apidOf (wide .pid) category) ≡ eqb (f .apid) (apidOf (narrow .pid) category) = rw (facts .pid) in
+      more (same-row refl apid)
+      (more (parting-row refl (serves-grows (wide .flags) (narrow .flags) kept (f .kind)))
+      (more (parting-row refl (offers-grows (wide .flags) (narrow .flags) kept (askedBy f)))
+      (service-beside (askedBy f) d)))
 
-  offers-grows : (request : Request) → offers narrow request ≡ true → offers wide request ≡ true
-  offers-grows (Asks action) = flag-grows action
-  offers-grows Connection = facts .connection
-  offers-grows Unknown = λ h. h
+  module _ (state : State) (out : ℕ) (packet : List ℕ) where
+    rows-beside : Together (rows narrow state octets out packet) (rows wide state octets out packet)
+    unfolding rows
+    rows-beside =
+        beside-append (caller-beside state out)
+        (beside-append (beside-self (readerRows packet)) (request-beside (fieldsOf packet) (applicationOf packet)))
 
-  names-grows : (request : Request) (application : List ℕ)
-      → namesArea narrow request application ≡ true → namesArea wide request application ≡ true
-  names-grows (Asks action) application = found-grows (widened wide narrow octets (memoryId application) w)
-  names-grows Connection application = λ h. h
-  names-grows Unknown application = λ h. h
+    -- Unless the narrower refuses by a number that may part, both verdicts are the same.
+    pub same-verdict : parts (decided narrow state octets out packet) ≡ false
+        → decided wide state octets out packet ≡ decided narrow state octets out packet
+    unfolding decided
+    same-verdict h = beside-same Accepted Refused parts rows-beside (λ r. refl) h
 
-  may-grows : (request : Request) (application : List ℕ)
-      → mayDo narrow request application ≡ true → mayDo wide request application ≡ true
-  may-grows (Asks action) application = right-grows action (widened wide narrow octets (memoryId application) w)
-  may-grows Connection application = λ h. h
-  may-grows Unknown application = λ h. h
-
-  stays-grows : (request : Request) (application : List ℕ)
-      → staysInside narrow request application ≡ true → staysInside wide request application ≡ true
-  stays-grows (Asks action) application = inside-grows action application (widened wide narrow octets (memoryId application) w)
-  stays-grows Connection application = λ h. h
-  stays-grows Unknown application = λ h. h
-
--- ---- the whole table
-
--- The refusals 3, 4, 17, 18 and 19 may part; acceptance does not.
-pub record MayPart (parts : Verdict → Bool) : Type 0 where
-  pub accepted : parts Accepted ≡ false
-  pub service : (d : ℕ) → parts (Service d) ≡ true
-  pub subtype : (d : ℕ) → parts (Subtype d) ≡ true
-  pub memory : (d : ℕ) → parts (Memory d) ≡ true
-  pub right : (d : ℕ) → parts (Right d) ≡ true
-  pub outside : (d : ℕ) → parts (Outside d) ≡ true
-
-module _ {parts : Verdict → Bool} (may : MayPart parts) (wide narrow : Profile) (octets : ℕ) (w : wider wide narrow octets ≡ true) where
-  caller-beside : (state : State) (out : ℕ) → Beside parts (callerRows narrow state octets out) (callerRows wide state octets out)
-  unfolding callerRows
-  caller-beside state out = more (same-row _ refl) (more (same-row _ (caller-same wide narrow octets w state)) none)
-
-  request-beside : (f : Fields) (request : Request) (application : List ℕ)
-      → Beside parts (requestRows narrow f request application) (requestRows wide f request application)
-  unfolding requestRows
-  request-beside f request application =
-      more (same-row _ (apid-same wide narrow octets w (f .apid)))
-      (more (parting-row _ _ (may .service _) (serves-grows wide narrow octets w _))
-      (more (parting-row _ _ (may .subtype _) (offers-grows wide narrow octets w request))
-      (more (same-row _ refl)
-      (more (parting-row _ _ (may .memory _) (names-grows wide narrow octets w request application))
-      (more (parting-row _ _ (may .right _) (may-grows wide narrow octets w request application))
-      (more (parting-row _ _ (may .outside _) (stays-grows wide narrow octets w request application)) none))))))
-
-  pub rows-beside : (state : State) (out : ℕ) (packet : List ℕ)
-      → Beside parts (rows narrow state octets out packet) (rows wide state octets out packet)
-  unfolding rows
-  rows-beside state out packet =
-      beside-append (caller-beside state out)
-      (beside-append (beside-self (readerRows packet))
-      (request-beside (fieldsOf packet) (requestIn packet) (applicationOf packet)))
+    -- The wider's first failing check is the same or a later one.
+    pub no-earlier : place (rows narrow state octets out packet) ≤ place (rows wide state octets out packet)
+    no-earlier = beside-later rows-beside

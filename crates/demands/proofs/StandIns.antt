@@ -8,23 +8,29 @@ use native.Mathlib.Omega.{arith}
 use lib.ListN.{length}
 use lib.Dec.{eqb}
 use borrow.Author.Tests.{eqb-true, eqb-false}
+use Rattle.laws.specs.Fold.{joined}
+use Rattle.laws.proofs.Tests.{by-test}
 use Rattle.octets.specs.Numbers.{octet}
 use Rattle.octets.specs.Copy.{laid}
+use Rattle.checks.specs.declared.Check.the-variants.{Short, Service}
 use Rattle.checks.specs.declared.Verdict.{Verdict}
-use Rattle.checks.specs.declared.Verdict.the-variants.{Accepted, Short, Service}
-use Rattle.checks.specs.Verdict.{isAccepted}
-use Rattle.checks.proofs.Table.{by-test}
+use Rattle.checks.specs.declared.Verdict.the-variants.{Accepted, Refused}
+use Rattle.checks.specs.Verdict.{isAccepted, refusal}
 use Rattle.tc.specs.Layout.{fieldsOf}
-use Rattle.terminal.specs.Reports.{Report, refusal, stateAfter, framesOf}
-use Rattle.terminal.specs.Outcome.{Input, verdictOn, outcomeOf, outAfter, storeOn}
+use Rattle.tm.specs.Frame.{Report, framesOf}
+use Rattle.terminal.specs.Reports.{failed}
+use Rattle.terminal.specs.Outcome.{Input, stateAfter, verdictOn, outcomeOf, outAfter, storeOn}
 use Rattle.terminal.specs.Run.{Answer, answerTo}
-use Rattle.terminal.specs.Examples.{lineInput, firstLine, secondLine}
 use Rattle.demands.proofs.Computing.{all}
-use Rattle.demands.proofs.Packets.{command, block, from}
+use Rattle.demands.proofs.Packets.{command, block, firstLine, secondLine, from, lineInput}
+
+-- The terminal's answer to an input.
+abbrev pub terminalOn : Input → Answer
+terminalOn i = answerTo (i .profile) (record { state = i .state; store = i .store }) (record { packet = i .packet; time = i .time; out = i .out })
 
 -- It is not the terminal: on some input its answer is another.
 abbrev pub Different : (Input → Answer) → Type 0
-Different f = (i : Input) × (f i ≡ answerTo i → ⊥)
+Different f = (i : Input) × (f i ≡ terminalOn i → ⊥)
 
 -- ---- refuses everything
 
@@ -38,12 +44,12 @@ refuser-differs f refuses =
 -- Refuses everything by 3, with its report.
 abbrev pub refusesAll : Input → Answer
 refusesAll i =
-    let v : Verdict = Service (fieldsOf (i .packet) .kind) in
-    let reports : List Report = refusal v (i .packet) ∷ [] in
-    let frames : List ℕ = framesOf (i .profile .pid) (i .time) (i .state) reports in
+    let v : Verdict = Refused (refusal Service (fieldsOf (i .packet) .kind)) in
+    let reports : List Report = failed v (i .packet) ∷ [] in
+    let octets : List ℕ = joined (framesOf (i .profile .pid) (i .time) (i .state .counts) reports) in
     record {
-      outcome = record { verdict = v; written = length frames; state = stateAfter (i .state) reports };
-      out = laid (i .out) 0 frames;
+      outcome = record { verdict = v; written = length octets; state = stateAfter (i .state) reports };
+      out = laid (i .out) 0 octets;
       store = i .store;
     }
 
@@ -112,8 +118,8 @@ writes-nothing-differs = keeper-differs writesNothing (λ i. refl)
 -- Answers as the terminal does at counts 0 and 0, and nothing at any others.
 abbrev pub onlyFirst : Input → Answer
 onlyFirst i =
-    cond (eqb (i .state .reports) 0 && eqb (i .state .services) 0) (answerTo i)
-    (record { outcome = record { verdict = Short; written = 0; state = i .state }; out = i .out; store = i .store })
+    cond (eqb (i .state .counts .reports) 0 && eqb (i .state .counts .services) 0) (terminalOn i)
+    (record { outcome = record { verdict = Refused (refusal Short 0); written = 0; state = i .state }; out = i .out; store = i .store })
 
 -- It is not the terminal: the second line is due a frame of 24 octets.
 pub only-first-differs : Different onlyFirst

@@ -2,5 +2,5 @@ pub mod Text
 pub mod Packets
 pub mod Cutting
 pub mod Serving
-pub mod Turns
+pub mod Pieces
 pub mod Streaming

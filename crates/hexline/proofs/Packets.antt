@@ -11,9 +11,9 @@ use lib.Seq.{drop-cons, drop-length}
 use lib.Dec.{leb, eqb}
 use borrow.Author.Tests.{leb-true, eqb-true, ltb-true, lt-ltb, le-ltb, lt-leb, le-leb, ne-eqb, eq-eqb}
 use Rattle.octets.specs.Copy.{laid}
-use Rattle.blocks.proofs.Blocks.{both}
+use Rattle.laws.proofs.Tests.{both}
 use Rattle.characters.specs.Digits.{valueOf, isDigit}
-use Rattle.hexline.specs.Line.{allDigits, isPacket, packetOf}
+use Rattle.hexline.specs.Line.{lineMost, allDigits, isPacket, packetOf}
 
 -- ---- the digits of a line
 
@@ -46,24 +46,24 @@ and-true : (b : Bool) → b && true ≡ b
 and-true true = refl
 and-true false = refl
 
-pub packet-long : (s : List ℕ) → 4096 < length s → false ≡ isPacket s
+pub packet-long : (s : List ℕ) → lineMost < length s → false ≡ isPacket s
 unfolding isPacket
-packet-long s h = sym (ap (λ (b : Bool). allDigits s && eqb (length s % 2) 0 && b) (lt-leb (length s) 4096 h) ∙ and-false (allDigits s && eqb (length s % 2) 0))
+packet-long s h = sym (ap (λ (b : Bool). allDigits s && eqb (length s % 2) 0 && b) (lt-leb (length s) lineMost h) ∙ and-false (allDigits s && eqb (length s % 2) 0))
 
-pub packet-odd : (s : List ℕ) → length s ≤ 4096 → (length s % 2 ≡ 0 → ⊥) → false ≡ isPacket s
+pub packet-odd : (s : List ℕ) → length s ≤ lineMost → (length s % 2 ≡ 0 → ⊥) → false ≡ isPacket s
 unfolding isPacket
-packet-odd s h odd = sym (rw (ne-eqb (length s % 2) 0 odd, le-leb (length s) 4096 h) (and-true (allDigits s && false) ∙ and-false (allDigits s)))
+packet-odd s h odd = sym (rw (ne-eqb (length s % 2) 0 odd, le-leb (length s) lineMost h) (and-true (allDigits s && false) ∙ and-false (allDigits s)))
 
-pub packet-even : (s : List ℕ) → length s ≤ 4096 → length s % 2 ≡ 0 → allDigits s ≡ isPacket s
+pub packet-even : (s : List ℕ) → length s ≤ lineMost → length s % 2 ≡ 0 → allDigits s ≡ isPacket s
 unfolding isPacket
-packet-even s h even = sym (rw (eq-eqb (length s % 2) 0 even, le-leb (length s) 4096 h) (and-true (allDigits s && true) ∙ and-true (allDigits s)))
+packet-even s h even = sym (rw (eq-eqb (length s % 2) 0 even, le-leb (length s) lineMost h) (and-true (allDigits s && true) ∙ and-true (allDigits s)))
 
-pub packet-facts : (s : List ℕ) → isPacket s ≡ true → (allDigits s ≡ true) × (length s % 2 ≡ 0) × (length s ≤ 4096)
+pub packet-facts : (s : List ℕ) → isPacket s ≡ true → (allDigits s ≡ true) × (length s % 2 ≡ 0) × (length s ≤ lineMost)
 unfolding isPacket
 packet-facts s e =
-    let s2 = both (allDigits s && eqb (length s % 2) 0) (leb (length s) 4096) e in
+    let s2 = both (allDigits s && eqb (length s % 2) 0) (leb (length s) lineMost) e in
     let s1 = both (allDigits s) (eqb (length s % 2) 0) (s2 .0) in
-    (s1 .0, eqb-true (length s % 2) 0 (s1 .1), leb-true (length s) 4096 (s2 .1))
+    (s1 .0, eqb-true (length s % 2) 0 (s1 .1), leb-true (length s) lineMost (s2 .1))
 
 -- ---- two digits at a time
 

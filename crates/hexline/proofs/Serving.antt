@@ -5,25 +5,29 @@ use mathlib.Core.Bool.{true, false}
 use mathlib.Core.List.{List}
 use Prim.Native.Nat.{ℕ, _+_, _≤_}
 use native.Mathlib.Omega.{arith}
-use lib.ListN.{length, take, replicate, length-append}
+use lib.ListN.{length, take, length-append}
 use Rattle.octets.specs.Copy.{laid}
 use Rattle.octets.proofs.Laid.{laid-length, laid-front, laid-append}
-use Rattle.checks.proofs.Table.{by-test}
+use Rattle.laws.proofs.Tests.{by-test}
 use Rattle.map.specs.declared.Profile.{Profile}
 use Rattle.terminal.specs.declared.Outcome.{Outcome}
-use Rattle.terminal.specs.Outcome.{Input, verdictOn, reportsOn, octetsDue, outcomeOf, outAfter, Answered}
+use Rattle.terminal.specs.Outcome.{Input, verdictOn, reportsOn, framesDue, octetsDue, outcomeOf, outAfter, Answered}
+use Rattle.terminal.specs.Act.{answerMost}
 use Rattle.hexline.specs.declared.Written.{Written}
-use Rattle.hexline.specs.Line.{Machine, inputFor, isPacket, packetOf, frameLines, closing, closingOf, packetAnswer, packetAfter, lineAnswer, lineAfter}
+use Rattle.hexline.specs.Line.{Station, packetInput, isPacket, packetOf, linesOf, closing, closingOf, packetAnswer, packetAfter, lineAnswer, lineAfter}
+use Rattle.hexline.specs.Unit.{lineTime}
+use Rattle.hexline.specs.Whole.{answerRoom}
 use Rattle.characters.specs.Digits.{textOf}
-use Rattle.hexline.specs.Cut.{cut}
+use Rattle.tm.specs.Frame.{cut}
+use Rattle.tm.proofs.Frames.{cut-frames}
 use Rattle.hexline.specs.Said.{Said}
 use Rattle.hexline.proofs.Packets.{packet-facts, packet-length}
-use Rattle.hexline.proofs.Cutting.{cut-frames, closing-length, frame-lines-most}
+use Rattle.hexline.proofs.Cutting.{cut-most, closing-length}
 use Rattle.terminal.proofs.Due.{due-bounded, due-fits}
 
 -- What stands at the front of the output buffer after an answer.
 pub record Front (i : Input) (r : Outcome) (out : List ℕ) : Type 0 where
-  pub small : r .written ≤ 4072
+  pub small : r .written ≤ answerMost
   pub inside : r .written ≤ length out
   pub frames : take (r .written) out ≡ octetsDue i
 
@@ -37,31 +41,40 @@ answered-front i r store out six a =
       frames = ap₂ (λ (n : ℕ) (o : List ℕ). take n o) written (a .out-is) ∙ laid-front (i .out) (octetsDue i) (due-fits i six);
     }
 
-module _ (p : Profile) (m : Machine) (packet : List ℕ) where
-  lines-due : cut (octetsDue (inputFor p m packet)) ≡ frameLines (p .pid) (replicate 6 0) (m .state) (reportsOn (inputFor p m packet))
-  unfolding octetsDue
-  lines-due = cut-frames (p .pid) (replicate 6 0) refl (m .state) (reportsOn (inputFor p m packet)) (due-bounded (inputFor p m packet) refl)
+module _ (p : Profile) (m : Station) (packet : List ℕ) where
+  -- The frames due are what their octets are cut into.
+  frames-cut : cut (octetsDue (packetInput p m packet)) ≡ framesDue (packetInput p m packet)
+  unfolding framesDue
+  frames-cut =
+      let i : Input = packetInput p m packet in
+      cut-frames (p .pid) lineTime (m .machine .state .counts) (reportsOn i) refl (due-bounded i refl)
 
   -- An answer has at most 16,384 characters.
-  pub packet-answer-most : length (packetAnswer p m packet) ≤ 16384
-  unfolding packetAnswer octetsDue
+  pub packet-answer-most : length (packetAnswer p m packet) ≤ answerRoom
+  unfolding packetAnswer
   packet-answer-most =
-      let i : Input = inputFor p m packet in
-      omega
-      (arith, length-append (frameLines (p .pid) (replicate 6 0) (m .state) (reportsOn i)) (closingOf (verdictOn i)), closing-length (verdictOn i), frame-lines-most (p .pid) (replicate 6 0) refl (m .state) (reportsOn i), due-bounded i refl)
+      let i : Input = packetInput p m packet in
+      omega (
+        arith,
+        length-append (linesOf (framesDue i)) (closingOf (verdictOn i)),
+        closing-length (verdictOn i),
+        ap (λ (fs : List (List ℕ)). length (linesOf fs)) frames-cut,
+        cut-most (octetsDue i),
+        due-bounded i refl,
+      )
 
   -- The frames written one a line, and the closing line behind them.
   pub packet-said : (at : ℕ) (text : List ℕ) (r : Outcome) (store out t₁ t₂ : List ℕ) (end last : ℕ)
-      → Answered (inputFor p m packet) r store out
-      → end ≡ at + length (cut (take (r .written) out)) → t₁ ≡ laid text at (cut (take (r .written) out))
+      → Answered (packetInput p m packet) r store out
+      → end ≡ at + length (linesOf (cut (take (r .written) out))) → t₁ ≡ laid text at (linesOf (cut (take (r .written) out)))
       → last ≡ end + 5 → t₂ ≡ laid t₁ end (closingOf (r .verdict))
       → Said (packetAnswer p m packet) (packetAfter p m packet) at text (record { at = last; state = r .state }) store out t₂
   unfolding packetAnswer packetAfter outcomeOf
   packet-said at text r store out t₁ t₂ end last a e f g h =
-      let i : Input = inputFor p m packet in
+      let i : Input = packetInput p m packet in
       let front = answered-front i r store out refl a in
-      let lines : List ℕ = frameLines (p .pid) (replicate 6 0) (m .state) (reportsOn i) in
-      let due : cut (take (r .written) out) ≡ lines = ap cut (front .frames) ∙ lines-due in
+      let lines : List ℕ = linesOf (framesDue i) in
+      let due : linesOf (cut (take (r .written) out)) ≡ lines = ap (λ (o : List ℕ). linesOf (cut o)) (front .frames) ∙ ap linesOf frames-cut in
       let v : closingOf (r .verdict) ≡ closingOf (verdictOn i) = ap (λ (o : Outcome). closingOf (o .verdict)) (a .outcome-is) in
       let place : end ≡ at + length lines = e ∙ ap (λ (l : List ℕ). at + length l) due in
       record {
@@ -90,10 +103,10 @@ decoded line buffer packet count good room e f =
       octets = ap₂ (λ (n : ℕ) (o : List ℕ). take n o) e f ∙ laid-front buffer (packetOf line) few;
     }
 
-module _ (p : Profile) (m : Machine) (line : List ℕ) where
+module _ (p : Profile) (m : Station) (line : List ℕ) where
   -- 0200 and nothing changed.
   pub line-refused : (at end : ℕ) (text t : List ℕ) → isPacket line ≡ false → end ≡ at + 5 → t ≡ laid text at (closing 2 0)
-      → Said (lineAnswer p m line) (lineAfter p m line) at text (record { at = end; state = m .state }) (m .store) (m .out) t
+      → Said (lineAnswer p m line) (lineAfter p m line) at text (record { at = end; state = m .machine .state }) (m .machine .store) (m .out) t
   unfolding lineAnswer lineAfter textOf
   line-refused at end text t bad e f = rw bad (record { at-is = e; state-is = refl; store-is = refl; out-is = refl; text-is = f })
 
@@ -104,7 +117,7 @@ module _ (p : Profile) (m : Machine) (line : List ℕ) where
   unfolding lineAnswer lineAfter
   line-served packet at text r store out t good e s = rw (good, ← e) s
 
-  pub line-answer-most : length (lineAnswer p m line) ≤ 16384
+  pub line-answer-most : length (lineAnswer p m line) ≤ answerRoom
   unfolding lineAnswer textOf
   line-answer-most =
       by-test (isPacket line) (λ t. rw t (packet-answer-most p m (packetOf line))) (λ e. rw e (omega arith))

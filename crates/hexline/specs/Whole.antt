@@ -1,34 +1,36 @@
--- Document 01, "The line program": the whole output as a function of the whole input.
-use mathlib.Core.Bool.{Bool, true, false}
-use mathlib.Core.List.{List, [], _∷_, _++_}
+-- Document 01, "The line program": the program over lines, and what goes from line to line at the start.
 use Prim.Native.Nat.{ℕ}
-use lib.Dec.{eqb}
-use lib.ListN.{replicate}
 use Rattle.map.specs.declared.Profile.{Profile}
-use Rattle.terminal.specs.Examples.{started}
-use Rattle.hexline.specs.Line.{Machine, lineAnswer, lineAfter}
-use Rattle.characters.specs.Lines.{newline}
+use Rattle.lines.specs.Cuts.{started as lines-started}
+use Rattle.lines.specs.Turn.{Program}
+use Rattle.lines.specs.Feed.{LineProgram, overPieces}
+use Rattle.hexline.specs.declared.Progress.{Progress}
+use Rattle.hexline.specs.Line.{lineMost, Station, closing, lineAnswer, lineAfter}
+use Rattle.hexline.specs.Unit.{lineState, lineStore, lineOut}
 
--- A character before some lines: a newline ends a line of its own, and any other begins the first.
-abbrev pub before : Bool → ℕ → List (List ℕ) → List (List ℕ)
-before true c lines = [] ∷ lines
-before false c [] = (c ∷ []) ∷ []
-before false c (line ∷ rest) = (c ∷ line) ∷ rest
+-- The most characters of an answer.
+abbrev pub answerRoom : ℕ
+answerRoom = 16384
 
--- The lines of an input: the newline ends a line and nothing else does; a last line without its newline counts if it is not empty.
-unfoldable pub linesOf : List ℕ → List (List ℕ)
-linesOf [] = []
-linesOf (c ∷ rest) = before (eqb c newline) c (linesOf rest)
+-- The line program: a line of more than 4,096 characters is answered 0200 and changes nothing; no answer has more than 16,384.
+abbrev pub lineProgram : Profile → LineProgram Station
+lineProgram p = record {
+  bound = lineMost;
+  most = answerRoom;
+  says = lineAnswer p;
+  becomes = lineAfter p;
+  says-long = λ m. closing 2 0;
+  becomes-long = λ m. m;
+}
 
--- The answers to some lines in turn, each from what the one before left.
-unfoldable pub answers : Profile → Machine → List (List ℕ) → List ℕ
-answers p m [] = []
-answers p m (line ∷ rest) = lineAnswer p m line ++ answers p (lineAfter p m line) rest
-
--- The whole output.
-unfoldable pub outputOf : Profile → Machine → List ℕ → List ℕ
-outputOf p m input = answers p m (linesOf input)
+-- The same over the pieces of lines.
+abbrev pub pieceProgram : Profile → Program Station
+pieceProgram p = overPieces (lineProgram p)
 
 -- Before the first line: counts of 0, a store of 128 zero octets, and a buffer of 4,096 zero octets for the frames.
-abbrev pub first : Machine
-first = record { state = started; store = replicate 128 0; out = replicate 4096 0 }
+abbrev pub first : Station
+first = record { machine = record { state = lineState; store = lineStore }; out = lineOut }
+
+-- How far the program has come before the first read.
+abbrev pub atFirst : Progress
+atFirst = record { lines = lines-started; state = lineState }

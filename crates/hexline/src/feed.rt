@@ -1,125 +1,121 @@
-// The lines of an input that comes in parts: whole lines are answered, and the open one is carried at the front of the input's buffer.
-use super::Fed;
+// An input that comes in parts: whole pieces of lines are answered, and what is left is carried at the front of the input's buffer.
+use super::ANSWER_ROOM;
+use super::LINE_MOST;
 use super::Progress;
+use super::Walked;
 use super::Written;
 use decide::State;
+use lines::Cut;
+use lines::End;
+use lines::Walk;
 use map::Profile;
-ghost use mathlib.Core.Path.{_≡_};
-ghost use mathlib.Core.Bool.{cond};
-ghost use Prim.Native.Nat.{_+_, _-_, _≤_, min};
-ghost use lib.ListN.{length, take, drop};
-ghost use Rattle.octets.specs.Copy.{laid};
-ghost use Rattle.hexline.specs.Said.{Said};
-ghost use Rattle.hexline.specs.Feed.{turnOf, openMost, lastAnswer, lastAfter, Lines, Feeds};
+ghost use Prim.Native.Nat.{_+_, _<_, _^_};
+ghost use Rattle.lines.specs.Pieces.{piece as pieceOf};
+ghost use Rattle.lines.specs.Feed.{WalkedBy, FedBy, FinishedBy};
+ghost use Rattle.hexline.specs.Whole.{answerRoom, pieceProgram};
+ghost use Rattle.hexline.specs.Said.{stationOf, SaidTo};
 
-// The lesser of two numbers.
-fn least(a: usize, b: usize) -> usize
-    ensures { λ r. ⌜ r ≡ min a b ⌝ }
-{
-    if a < b { a } else { b }
-}
-
-// Answers the whole lines of an input, as long as the text has room for another answer of 16,384 characters.
-fn answer_lines(
+// Answers a piece of a line into a text from a place on: a line that is one piece, or 0200 at the end of one that is too long.
+fn answer_piece(
     profile: Profile,
     state: State,
-    input: &[u8],
+    begins: bool,
+    piece: &[u8],
+    end: End,
     store: &mut [u8],
     out: &mut [u8],
     text: &mut [u8],
-) -> Fed
-    ensures { λ r. ⌜ Lines (turnOf profile (length (now (text .entry))) (record { state = state; store = now (store .entry); out = now (out .entry) }) (now (input .entry))) (now (input .entry)) (now (text .entry)) r (now (store .exit)) (now (out .exit)) (now (text .exit)) ⌝ }
+    at: usize,
+) -> Written
+    requires { ⌜ at + answerRoom < 2 ^ 64 ⌝ }
+    ensures { λ r. ⌜ SaidTo profile (pieceOf begins (now (piece .entry)) end) state at store out text r ⌝ }
 {
-    let mut written = Written { at: 0, state };
-    let mut from = 0;
-    let mut end = characters::line_end(input, from);
-    while end < input.len() {
-        if text.len() - written.at < 16384 {
-            return Fed {
-                from,
-                open: false,
-                written,
-            };
-        }
-        let counts = written.state;
-        let at = written.at;
-        written = super::line::answer_at(profile, counts, &input[from..end], store, out, text, at);
-        from = end + 1;
-        end = characters::line_end(input, from);
+    if !lines::ends(end) {
+        return Written { at, state };
     }
-    Fed {
-        from,
-        open: true,
-        written,
+    if begins {
+        return super::line::answer_at(profile, state, piece, store, out, text, at);
     }
+    let behind = super::line::put_closing(2, 0, text, at);
+    Written { at: behind, state }
 }
 
-// Moves the input from a place up to another to the front of its buffer, and answers how much it is.
-fn keep(input: &mut [u8], from: usize, end: usize) -> usize
-    requires { ⌜ (from ≤ end) × (end ≤ length (now input)) ⌝ }
-    ensures { λ r. ⌜ (r ≡ end - from) × (now (input .exit) ≡ laid (now (input .entry)) 0 (take (end - from) (drop from (now (input .entry))))) ⌝ }
-{
-    let count = end - from;
-    let mut i = 0;
-    while i < count {
-        input[i] = input[from + i];
-        i += 1;
-    }
-    count
-}
-
-// Where the input ends that is kept from a place on: an open line of more than 4,097 characters is cut, since it is refused whatever follows.
-fn kept_end(from: usize, have: usize, open: bool) -> usize
-    requires { ⌜ from ≤ have ⌝ }
-    ensures { λ r. ⌜ r ≡ cond «open» (min have (from + openMost)) have ⌝ }
-{
-    if open {
-        if 4097 < have - from {
-            return from + 4097;
-        }
-    }
-    have
-}
-
-// Answers whole lines of the input that stands at the front of its buffer, and moves what is not answered there.
-pub fn feed(
+// Answers the whole pieces of an input, as long as the text has room for another answer of 16,384 characters.
+fn walk(
     profile: Profile,
     state: State,
+    input: &[u8],
+    begins: bool,
+    store: &mut [u8],
+    out: &mut [u8],
+    text: &mut [u8],
+) -> Walked
+    ensures { λ r. ⌜ WalkedBy (pieceProgram profile) (stationOf state (store .entry) (out .entry)) begins (input .entry) text (r .walk) (stationOf (r .state) (store .exit) (out .exit)) ⌝ }
+{
+    let mut w = Walk {
+        from: 0,
+        begins,
+        open: false,
+        at: 0,
+    };
+    let mut counts = state;
+    loop {
+        let Cut::Piece(count, end) = lines::next(input, w.from, LINE_MOST) else {
+            w.open = true;
+            return Walked {
+                walk: w,
+                state: counts,
+            };
+        };
+        let at = w.at;
+        if text.len() - at < ANSWER_ROOM {
+            return Walked {
+                walk: w,
+                state: counts,
+            };
+        }
+        let piece = lines::piece(input, w.from, count);
+        let written = answer_piece(profile, counts, w.begins, piece, end, store, out, text, at);
+        counts = written.state;
+        w = lines::passed(input, w, count, end, written.at);
+    }
+}
+
+// Answers whole pieces of the input that stands at the front of its buffer, and moves what is not answered there.
+pub fn feed(
+    profile: Profile,
+    p: Progress,
     input: &mut [u8],
-    have: usize,
     store: &mut [u8],
     out: &mut [u8],
     text: &mut [u8],
 ) -> Progress
-    ensures { λ r. ⌜ Feeds (turnOf profile (length (now (text .entry))) (record { state = state; store = now (store .entry); out = now (out .entry) }) (take have (now (input .entry)))) (now (input .entry)) (now (text .entry)) r (now (input .exit)) (now (store .exit)) (now (out .exit)) (now (text .exit)) ⌝ }
+    ensures { λ r. ⌜ FedBy (pieceProgram profile) (stationOf (p .state) (store .entry) (out .entry)) (p .lines) input text (r .lines) (stationOf (r .state) (store .exit) (out .exit)) ⌝ }
 {
-    let whole = least(have, input.len());
-    let fed = answer_lines(profile, state, &input[..whole], store, out, text);
-    let from = fed.from;
-    let left = keep(input, from, kept_end(from, whole, fed.open));
-    let written = fed.written;
-    Progress {
-        have: left,
-        open: fed.open,
-        written,
-    }
+    let l = p.lines;
+    let front = lines::front(input, l.have);
+    let walked = walk(profile, p.state, front, l.begins, store, out, text);
+    let left = lines::carry(input, l.have, walked.walk);
+    let state = walked.state;
+    Progress { lines: left, state }
 }
 
 // Answers what is left at the end of the input: a last line without its newline counts if it is not empty.
 pub fn finish(
     profile: Profile,
-    state: State,
+    p: Progress,
     input: &[u8],
-    have: usize,
     store: &mut [u8],
     out: &mut [u8],
     text: &mut [u8],
 ) -> Written
-    ensures { λ r. ⌜ Said (lastAnswer profile (record { state = state; store = now (store .entry); out = now (out .entry) }) (take have (now (input .entry)))) (lastAfter profile (record { state = state; store = now (store .entry); out = now (out .entry) }) (take have (now (input .entry)))) 0 (now (text .entry)) r (now (store .exit)) (now (out .exit)) (now (text .exit)) ⌝ }
+    ensures { λ r. ⌜ FinishedBy (pieceProgram profile) (stationOf (p .state) (store .entry) (out .entry)) (p .lines) (input .entry) text (r .at) (stationOf (r .state) (store .exit) (out .exit)) ⌝ }
 {
-    let whole = least(have, input.len());
-    if whole == 0 {
+    let l = p.lines;
+    let state = p.state;
+    let rest = lines::front(input, l.have);
+    let Cut::Piece(_, end) = lines::last(rest) else {
         return Written { at: 0, state };
-    }
-    super::line::answer(profile, state, &input[..whole], store, out, text)
+    };
+    answer_piece(profile, state, l.begins, rest, end, store, out, text, 0)
 }

@@ -1,12 +1,23 @@
 // The line program of document 01: a packet a line in hexadecimal, and what each line is answered.
 use map::Area;
+use map::Flags;
 use map::Profile;
+use map::Rights;
 ghost use mathlib.Core.Path.{_≡_};
-ghost use Rattle.terminal.specs.Examples.{noArea, lineArea, lineProfile};
+ghost use Rattle.hexline.specs.Unit.{lineProfile};
+ghost use Rattle.hexline.specs.Whole.{atFirst};
 
-pub mod feed; // feed.rt: the lines of an input that comes in parts
+pub mod feed; // feed.rt: an input that comes in parts
 mod hex; // hex.rt: the text of octets
 pub mod line; // line.rt: what one line is answered
+
+// The most characters of a packet line, and of an answer.
+const LINE_MOST: usize = 4096;
+
+const ANSWER_ROOM: usize = 16384;
+
+// Where the area of the line program's profile starts.
+const AREA_START: u32 = 0x1000;
 
 // How far the answers have come: the place of the next one in the text, and the counts.
 pub struct Written {
@@ -14,62 +25,70 @@ pub struct Written {
     pub state: decide::State,
 }
 
-// Where the input that is not answered begins, whether no whole line is left in it, and how far the answers have come.
-pub struct Fed {
-    pub from: usize,
-    pub open: bool,
-    pub written: Written,
+// How far a walk over the pieces of an input has come, and the counts.
+pub(crate) struct Walked {
+    pub walk: lines::Walk,
+    pub state: decide::State,
 }
 
-// How much input is not answered and stands at the front of its buffer, whether no whole line is left in it, and how far the answers have come.
+// How far the program has come, and the counts.
 pub struct Progress {
-    pub have: usize,
-    pub open: bool,
-    pub written: Written,
+    pub lines: lines::Progress,
+    pub state: decide::State,
 }
 
-// An area place that is not used.
-fn no_area() -> Area
-    ensures { λ r. ⌜ r ≡ noArea ⌝ }
+// Before the first line: counts of 0.
+pub fn start() -> Progress
+    ensures { λ r. ⌜ r ≡ atFirst ⌝ }
 {
-    Area {
-        id: 0,
-        start: 0,
-        length: 0,
-        first: 0,
-        load: false,
-        dump: false,
-        check: false,
+    Progress {
+        lines: lines::start(),
+        state: decide::State {
+            counts: tm::counts::none(),
+        },
     }
 }
 
-// The line program's one area: ID 1, start 1000 hex, 64 words, store word 0, all rights.
-fn area() -> Area
-    ensures { λ r. ⌜ r ≡ lineArea ⌝ }
+// An area with those rights, all of them or none.
+fn area(id: u8, start: u32, length: u32, all: bool) -> Area
+    ensures { λ r. ⌜ r ≡ record { id = id; start = start; length = length; first = 0; rights = record { load = all; dump = all; check = all } } ⌝ }
 {
     Area {
-        id: 1,
-        start: 0x1000,
-        length: 64,
+        id,
+        start,
+        length,
         first: 0,
-        load: true,
-        dump: true,
-        check: true,
+        rights: Rights {
+            load: all,
+            dump: all,
+            check: all,
+        },
     }
 }
 
-// The line program's profile: PID 5, all flags, that area.
+// The line program's profile: PID 5, all flags, and one area: ID 1, start 1000 hex, 64 words, store word 0, all rights.
 pub fn profile() -> Profile
     ensures { λ r. ⌜ r ≡ lineProfile ⌝ }
 {
-    let none = no_area();
+    let none = area(0, 0, 0, false);
     Profile {
         pid: 5,
-        load: true,
-        dump: true,
-        check: true,
-        connection: true,
+        flags: Flags {
+            load: true,
+            dump: true,
+            check: true,
+            connection: true,
+        },
         count: 1,
-        areas: [area(), none, none, none, none, none, none, none],
+        areas: [
+            area(1, AREA_START, 64, true),
+            none,
+            none,
+            none,
+            none,
+            none,
+            none,
+            none,
+        ],
     }
 }

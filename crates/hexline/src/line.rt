@@ -1,4 +1,5 @@
 // One line: whether it is a packet line, its packet, and what it is answered.
+use super::LINE_MOST;
 use super::Written;
 use checks::Verdict;
 use decide::State;
@@ -9,9 +10,10 @@ ghost use mathlib.Core.List.{List, [], _∷_, _++_};
 ghost use Prim.Native.Nat.{_+_, _*_, _<_, _≤_, _^_, min};
 ghost use lib.ListN.{length, take, drop};
 ghost use Rattle.octets.specs.Copy.{laid};
-ghost use Rattle.hexline.specs.Line.{allDigits, isPacket, packetOf, closing, closingOf, packetAnswer, packetAfter, lineAnswer, lineAfter};
-ghost use Rattle.hexline.specs.Cut.{frameSize, lineOf, cut};
-ghost use Rattle.hexline.specs.Said.{Said};
+ghost use Rattle.tm.specs.Frame.{cut};
+ghost use Rattle.hexline.specs.Line.{allDigits, isPacket, packetOf, lineOf, linesOf, closing, closingOf, packetAnswer, packetAfter, lineAnswer, lineAfter};
+ghost use Rattle.hexline.specs.Whole.{answerRoom};
+ghost use Rattle.hexline.specs.Said.{SaidBy};
 
 // Whether every character of a line is a digit.
 fn all_digits(line: &[u8]) -> bool
@@ -32,7 +34,7 @@ fn all_digits(line: &[u8]) -> bool
 pub fn is_packet(line: &[u8]) -> bool
     ensures { λ r. ⌜ r ≡ isPacket (now (line .entry)) ⌝ }
 {
-    if 4096 < line.len() {
+    if LINE_MOST < line.len() {
         return false;
     }
     let odd = line.len() % 2;
@@ -68,32 +70,15 @@ fn put_line(text: &mut [u8], at: usize, octets: &[u8]) -> usize
     end + 1
 }
 
-// Where the frame ends that begins at a place of some frames: the length field is its octets minus 7.
-fn frame_end(frames: &[u8], from: usize) -> usize
-    requires { ⌜ from < length (now frames) ⌝ }
-    ensures { λ r. ⌜ r ≡ min (from + frameSize (drop from (now (frames .entry)))) (length (now (frames .entry))) ⌝ }
-{
-    let left = frames.len() - from;
-    if left <= 7 {
-        return frames.len();
-    }
-    let size = (octets::numbers::word16_at(frames, from + 4) as usize) + 7;
-    if size <= left {
-        from + size
-    } else {
-        frames.len()
-    }
-}
-
 // Writes frames one a line, and answers the place behind them.
 fn put_frames(frames: &[u8], text: &mut [u8], at: usize) -> usize
     requires { ⌜ at + 3 * length (now frames) < 2 ^ 64 ⌝ }
-    ensures { λ r. ⌜ (r ≡ at + length (cut (now (frames .entry)))) × (now (text .exit) ≡ laid (now (text .entry)) at (cut (now (frames .entry)))) ⌝ }
+    ensures { λ r. ⌜ (r ≡ at + length (linesOf (cut (now (frames .entry))))) × (now (text .exit) ≡ laid (now (text .entry)) at (linesOf (cut (now (frames .entry))))) ⌝ }
 {
     let mut from = 0;
     let mut to = at;
     while from < frames.len() {
-        let end = frame_end(frames, from);
+        let end = tm::frame_end(frames, from);
         to = put_line(text, to, &frames[from..end]);
         from = end;
     }
@@ -101,7 +86,7 @@ fn put_frames(frames: &[u8], text: &mut [u8], at: usize) -> usize
 }
 
 // Writes a closing line, and answers the place behind it.
-fn put_closing(kind: u8, number: u8, text: &mut [u8], at: usize) -> usize
+pub(crate) fn put_closing(kind: u8, number: u8, text: &mut [u8], at: usize) -> usize
     requires { ⌜ at + 5 < 2 ^ 64 ⌝ }
     ensures { λ r. ⌜ (r ≡ at + 5) × (now (text .exit) ≡ laid (now (text .entry)) at (closing kind number)) ⌝ }
 {
@@ -130,8 +115,8 @@ fn serve(
     text: &mut [u8],
     at: usize,
 ) -> Written
-    requires { ⌜ at + 16384 < 2 ^ 64 ⌝ }
-    ensures { λ r. ⌜ Said (packetAnswer profile (record { state = state; store = now (store .entry); out = now (out .entry) }) (now (packet .entry))) (packetAfter profile (record { state = state; store = now (store .entry); out = now (out .entry) }) (now (packet .entry))) at (now (text .entry)) r (now (store .exit)) (now (out .exit)) (now (text .exit)) ⌝ }
+    requires { ⌜ at + answerRoom < 2 ^ 64 ⌝ }
+    ensures { λ r. ⌜ SaidBy (λ m. packetAnswer profile m (now (packet .entry))) (λ m. packetAfter profile m (now (packet .entry))) state at store out text r ⌝ }
 {
     let outcome = terminal::answer(profile, state, [0; 6], packet, store, out);
     let written = outcome.written;
@@ -155,8 +140,8 @@ pub(crate) fn answer_at(
     text: &mut [u8],
     at: usize,
 ) -> Written
-    requires { ⌜ at + 16384 < 2 ^ 64 ⌝ }
-    ensures { λ r. ⌜ Said (lineAnswer profile (record { state = state; store = now (store .entry); out = now (out .entry) }) (now (line .entry))) (lineAfter profile (record { state = state; store = now (store .entry); out = now (out .entry) }) (now (line .entry))) at (now (text .entry)) r (now (store .exit)) (now (out .exit)) (now (text .exit)) ⌝ }
+    requires { ⌜ at + answerRoom < 2 ^ 64 ⌝ }
+    ensures { λ r. ⌜ SaidBy (λ m. lineAnswer profile m (now (line .entry))) (λ m. lineAfter profile m (now (line .entry))) state at store out text r ⌝ }
 {
     if !is_packet(line) {
         let end = put_closing(2, 0, text, at);
@@ -176,7 +161,7 @@ pub fn answer(
     out: &mut [u8],
     text: &mut [u8],
 ) -> Written
-    ensures { λ r. ⌜ Said (lineAnswer profile (record { state = state; store = now (store .entry); out = now (out .entry) }) (now (line .entry))) (lineAfter profile (record { state = state; store = now (store .entry); out = now (out .entry) }) (now (line .entry))) 0 (now (text .entry)) r (now (store .exit)) (now (out .exit)) (now (text .exit)) ⌝ }
+    ensures { λ r. ⌜ SaidBy (λ m. lineAnswer profile m (now (line .entry))) (λ m. lineAfter profile m (now (line .entry))) state 0 store out text r ⌝ }
 {
     answer_at(profile, state, line, store, out, text, 0)
 }

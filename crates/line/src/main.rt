@@ -1,100 +1,27 @@
 // The line program of document 01: a packet a line on standard input, and on standard output its frames and a closing line.
-use decide::State;
+use console::Got;
 use hexline::Progress;
-use hexline::Written;
-use libc::STDERR_FILENO;
-use libc::STDIN_FILENO;
-use libc::STDOUT_FILENO;
 
-// The input that is not answered yet, with room behind the longest open line for 65,536 octets more.
-type Input = [u8; 69633];
+// How much each buffer holds. The input has room behind the longest open piece, 4,096 characters, for 65,536 more.
+const INPUT_ROOM: usize = 69632;
+
+const TEXT_ROOM: usize = 65536;
+
+const STORE_ROOM: usize = 128;
+
+const FRAMES_ROOM: usize = 4096;
+
+// The input that is not answered yet.
+type Input = [u8; INPUT_ROOM];
 
 // The answers that wait to be written.
-type Text = [u8; 65536];
+type Text = [u8; TEXT_ROOM];
 
 // The terminal's store.
-type Store = [u8; 128];
+type Store = [u8; STORE_ROOM];
 
 // The buffer that the terminal's frames are laid into.
-type Frames = [u8; 4096];
-
-// Writes the front of a text, and answers whether all of it was taken.
-fn write(text: &Text, count: usize) -> bool {
-    io::write_all(STDOUT_FILENO, octets::copy::part(text, 0, count))
-}
-
-// Reads behind the input that is not answered, and answers how much there is now.
-fn read(input: &mut [u8], have: usize) -> usize {
-    if input.len() < have {
-        return have;
-    }
-    let part = &mut input[have..];
-    let got = libc::read(STDIN_FILENO, part);
-    say_if_failed(got);
-    have + io::count(got, part)
-}
-
-// A read that fails is said, and taken for the end of the input.
-fn say_if_failed(got: isize) {
-    if got < 0 {
-        io::write_all(STDERR_FILENO, b"line: standard input cannot be read\n");
-    }
-}
-
-// Answers what is left at the end of the input.
-fn end(p: Progress, input: &Input, store: &mut Store, frames: &mut Frames, text: &mut Text) {
-    let written = p.written;
-    let last = hexline::feed::finish(
-        hexline::profile(),
-        written.state,
-        input,
-        p.have,
-        store,
-        frames,
-        text,
-    );
-    write(text, last.at);
-}
-
-// One turn: answers what was read and writes the answers; then, where no whole line is left, reads more. Answers whether to go on.
-fn turn(
-    p: Progress,
-    input: &mut Input,
-    store: &mut Store,
-    frames: &mut Frames,
-    text: &mut Text,
-) -> Next {
-    let before = p.written;
-    let fed = hexline::feed::feed(
-        hexline::profile(),
-        before.state,
-        input,
-        p.have,
-        store,
-        frames,
-        text,
-    );
-    let written = fed.written;
-    if !write(text, written.at) {
-        return Next { on: false, p: fed };
-    }
-    if !fed.open {
-        return Next { on: true, p: fed };
-    }
-    let have = read(input, fed.have);
-    if have == fed.have {
-        end(fed, input, store, frames, text);
-        return Next { on: false, p: fed };
-    }
-    Next {
-        on: true,
-        p: Progress {
-            have,
-            open: fed.open,
-            written,
-        },
-    }
-}
+type Frames = [u8; FRAMES_ROOM];
 
 // Whether to go on, and how far the program has come.
 struct Next {
@@ -102,22 +29,68 @@ struct Next {
     p: Progress,
 }
 
+// Writes the front of a text, and answers whether to go on.
+fn write(text: &Text, count: usize) -> bool {
+    console::write(b"line", lines::front(text, count))
+}
+
+// Answers what is left at the end of the input.
+fn end(p: Progress, input: &Input, store: &mut Store, frames: &mut Frames, text: &mut Text) {
+    let last = hexline::feed::finish(hexline::profile(), p, input, store, frames, text);
+    write(text, last.at);
+}
+
+// Reads behind what is left: more of the input, its end, or a failure, after which nothing is answered any more.
+fn more(
+    p: Progress,
+    input: &mut Input,
+    store: &mut Store,
+    frames: &mut Frames,
+    text: &mut Text,
+) -> Next {
+    let mut l = p.lines;
+    match console::read(b"line", input, l.have) {
+        Got::More(have) => {
+            l.have = have;
+            let state = p.state;
+            Next {
+                on: true,
+                p: Progress { lines: l, state },
+            }
+        }
+        Got::End => {
+            end(p, input, store, frames, text);
+            Next { on: false, p }
+        }
+        Got::Failed => Next { on: false, p },
+    }
+}
+
+// One turn: answers what was read and writes the answers; then, where no whole piece is left, reads more.
+fn turn(
+    p: Progress,
+    input: &mut Input,
+    store: &mut Store,
+    frames: &mut Frames,
+    text: &mut Text,
+) -> Next {
+    let fed = hexline::feed::feed(hexline::profile(), p, input, store, frames, text);
+    let l = fed.lines;
+    if !write(text, l.at) {
+        return Next { on: false, p: fed };
+    }
+    if !l.open {
+        return Next { on: true, p: fed };
+    }
+    more(fed, input, store, frames, text)
+}
+
 // A proved loop has to end, and nothing says that the input does. So the loop counts its turns down, from a number that no run uses up.
 fn run(input: &mut Input, store: &mut Store, frames: &mut Frames, text: &mut Text) {
     let mut turns = u64::MAX;
     let mut t = Next {
         on: true,
-        p: Progress {
-            have: 0,
-            open: true,
-            written: Written {
-                at: 0,
-                state: State {
-                    reports: 0,
-                    services: 0,
-                },
-            },
-        },
+        p: hexline::start(),
     };
     while turns > 0 && t.on {
         let p = t.p;
@@ -127,9 +100,9 @@ fn run(input: &mut Input, store: &mut Store, frames: &mut Frames, text: &mut Tex
 }
 
 fn main() {
-    let mut frames = [0; 4096];
-    let mut store = [0u8; 128];
-    let mut input = [0u8; 69633];
-    let mut text = [0u8; 65536];
+    let mut frames = [0; FRAMES_ROOM];
+    let mut store = [0u8; STORE_ROOM];
+    let mut input = [0u8; INPUT_ROOM];
+    let mut text = [0u8; TEXT_ROOM];
     run(&mut input, &mut store, &mut frames, &mut text);
 }

@@ -12,9 +12,11 @@ use Rattle.map.specs.declared.Profile.{Profile}
 use Rattle.map.specs.declared.Found.{Found}
 use Rattle.map.specs.declared.Found.the-variants.{At, Nothing}
 use Rattle.map.specs.Place.{used, findIn}
-use Rattle.map.specs.Sound.{sound, areaSound, apart, pairSound, every, everyPair}
-use Rattle.map.proofs.Flags.{both, cond-cases}
-use Rattle.map.proofs.Soundness.{sound-facts, pair-ids-differ, pair-apart, apart-sym, every-member}
+use Rattle.laws.specs.Each.{every}
+use Rattle.map.specs.Sound.{sound, areaSound, apart, pairSound, everyPair}
+use Rattle.laws.proofs.Each.{every-member}
+use Rattle.laws.proofs.Tests.{halves, cond-cases}
+use Rattle.map.proofs.Soundness.{sound-facts, pair-ids-differ, pair-apart, apart-sym}
 
 pub at-is-not-nothing : (o : Found) (a : Area) → o ≡ At a → o ≡ Nothing → ⊥
 at-is-not-nothing o a h k = let z : _≡_ {A = ℕ} 0 1 = cc in omega arith
@@ -43,9 +45,9 @@ pub member-found : {l : List Area} {a : Area} → List·Memᴰ a l → everyPair
 unfolding findIn everyPair
 member-found {a = a} (List·Memᴰ·head {x} {xs} e) h = rw (eq-eqb (x .id) (a .id) (ap (λ (b : Area). b .id) (sym e))) (ap At (sym e))
 member-found {a = a} (List·Memᴰ·tail {x} {xs} m) h =
-    let met : every (pairSound x) xs ≡ true = search both in
+    let met : every (pairSound x) xs ≡ true = search halves in
     rw (ne-eqb (x .id) (a .id) (pair-ids-differ x a (every-member (pairSound x) m met)))
-    (member-found m (search both))
+    (member-found m (search halves))
 
 -- In a list without a clash, two areas with different memory IDs share no store word.
 pub members-apart :
@@ -58,11 +60,11 @@ pub members-apart :
 unfolding everyPair
 members-apart [] a b h m k d = absurd (List·Memᴰ·not-nil m)
 members-apart (x ∷ rest) a b h m k d =
-    let met : every (pairSound x) rest ≡ true = search both in
+    let met : every (pairSound x) rest ≡ true = search halves in
     let here : (c : Area) → List·Memᴰ c rest → apart x c ≡ true = λ c n. pair-apart x c (every-member (pairSound x) n met) in
     ⊎-elim
     (λ e. ⊎-elim (λ f. absurd (d (ap (λ (c : Area). c .id) (e ∙ sym f)))) (λ n. rw e (here b n)) (List·Memᴰ·cases-cons k))
-    (λ n. ⊎-elim (λ f. apart-sym b a (rw f (here a n))) (λ o. members-apart rest a b (search both) n o d) (List·Memᴰ·cases-cons k))
+    (λ n. ⊎-elim (λ f. apart-sym b a (rw f (here a n))) (λ o. members-apart rest a b (search halves) n o d) (List·Memᴰ·cases-cons k))
     (List·Memᴰ·cases-cons m)
 
 pub found-sound :

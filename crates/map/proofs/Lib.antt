@@ -1,8 +1,8 @@
-mod Flags
 mod Walk
 pub mod Soundness
 pub mod Finding
 pub mod Octets
+pub mod Keeping
 pub mod Covering
 pub mod Widening
 pub mod Unused

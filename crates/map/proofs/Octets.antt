@@ -1,16 +1,20 @@
--- Where the words of an area's blocks stand in the store.
+-- Where the words of an area's blocks stand in the store, and how many octets they are. What a word's size is stays in this crate.
+-- Assumes nothing.
 use mathlib.Core.Bool.{true}
 use mathlib.Core.Logic.{_⊎_, inl, inr, ⊎-elim}
-use mathlib.Core.Path.{_≡_}
-use Prim.Native.Nat.{ℕ, _+_, _-_, _≤_, _<_}
+use mathlib.Core.Path.{_≡_, refl}
+use mathlib.Core.List.{List}
+use Prim.Native.Nat.{ℕ, _+_, _*_, _^_, _≤_, _<_}
 use native.Mathlib.Omega.{arith}
+use lib.ListN.{length}
 use borrow.Author.Tests.{leb-true}
+use Rattle.octets.proofs.Between.{between-most}
 use Rattle.map.specs.declared.Area.{Area}
 use Rattle.map.specs.declared.Found.the-variants.{At}
 use Rattle.map.specs.declared.Profile.{Profile}
-use Rattle.map.specs.Place.{used, findIn, inside, octetAt, octetsOf}
+use Rattle.map.specs.Place.{wordOctets, dumpWords, dumpOctets, used, findIn, inside, octetAt, octetsOf, storedAt, Off}
 use Rattle.map.specs.Sound.{sound, areaSound, apart}
-use Rattle.map.proofs.Flags.{both}
+use Rattle.laws.proofs.Tests.{halves}
 use Rattle.map.proofs.Soundness.{area-facts, apart-facts}
 use Rattle.map.proofs.Finding.{found-apart}
 
@@ -20,7 +24,7 @@ pub record InsideFacts (a : Area) (start words : ℕ) : Type 0 where
 
 pub inside-facts : (a : Area) (start words : ℕ) → inside a start words ≡ true → InsideFacts a start words
 unfolding inside
-inside-facts a start words h = record { from = leb-true _ _ (search both); to = leb-true _ _ (search both) }
+inside-facts a start words h = record { from = leb-true _ _ (search halves); to = leb-true _ _ (search halves) }
 
 -- A block inside a sound area lies in the store.
 pub inside-store :
@@ -28,12 +32,12 @@ pub inside-store :
     → areaSound octets a ≡ true
     → inside a start words ≡ true
     → octetAt a start + octetsOf a words ≤ octets
-unfolding octetAt octetsOf
+unfolding octetAt octetsOf wordOctets
 inside-store octets a start words s h = omega (arith, area-facts octets a s .stored, inside-facts a start words h)
 
--- Two addresses of one area have octets of their own: a word is two.
-pub different-octets : (a : Area) (x y : ℕ) → a .start ≤ x → x < y → octetAt a x + 2 ≤ octetAt a y
-unfolding octetAt octetsOf
+-- Two addresses of one area have octets of their own.
+pub different-octets : (a : Area) (x y : ℕ) → a .start ≤ x → x < y → octetAt a x + octetsOf a 1 ≤ octetAt a y
+unfolding octetAt octetsOf wordOctets
 different-octets a x y h l = omega arith
 
 -- Blocks of two areas that share no store word: the octets of one lie wholly before those of the other.
@@ -43,7 +47,7 @@ pub apart-octets :
     → inside a s v ≡ true
     → inside b t w ≡ true
     → (octetAt a s + octetsOf a v ≤ octetAt b t) ⊎ (octetAt b t + octetsOf b w ≤ octetAt a s)
-unfolding octetAt octetsOf
+unfolding octetAt octetsOf wordOctets
 apart-octets a b s v t w p ha hb =
     let ia = inside-facts a s v ha in
     let ib = inside-facts b t w hb in
@@ -61,3 +65,39 @@ pub found-octets-apart :
     → (octetAt a s + octetsOf a v ≤ octetAt b t) ⊎ (octetAt b t + octetsOf b w ≤ octetAt a s)
 found-octets-apart p octets i j a b s v t w h ha hb d =
     apart-octets a b s v t w (found-apart p octets i j a b h ha hb d)
+
+-- Words are so many octets each.
+pub octets-words : (a : Area) (words : ℕ) → octetsOf a words ≡ words * wordOctets
+unfolding octetsOf
+octets-words a words = refl
+
+-- Where the words of a block end has 64 bits, whatever the area and the block.
+pub octets-fit :
+    (a : Area) (start words : ℕ)
+    → a .first < 2 ^ 32
+    → start < 2 ^ 32
+    → words < 2 ^ 32
+    → octetAt a start + octetsOf a words < 2 ^ 64
+unfolding octetAt octetsOf wordOctets
+octets-fit a start words f s w = omega arith
+
+-- A block of a dump carries at most 480 octets.
+pub dump-most : (a : Area) (words : ℕ) → words ≤ dumpWords → octetsOf a words ≤ dumpOctets
+unfolding octetsOf wordOctets
+dump-most a words h = omega arith
+
+-- No more octets of the store are read than the words have.
+pub stored-most : (a : Area) (store : List ℕ) (start words : ℕ) → length (storedAt a store start words) ≤ octetsOf a words
+unfolding storedAt
+stored-most a store start words = omega (arith, between-most (octetAt a start) (octetAt a start + octetsOf a words) store)
+
+-- The words of a block that is inside an area lie in the area's words.
+pub off-block :
+    (a : Area) (k start words : ℕ)
+    → Off a k
+    → inside a start words ≡ true
+    → (k < octetAt a start) ⊎ (octetAt a start + octetsOf a words ≤ k)
+unfolding Off octetAt octetsOf wordOctets
+off-block a k start words off h =
+    let i = inside-facts a start words h in
+    ⊎-elim (λ (l : k < octetsOf a (a .first)). inl (omega arith)) (λ (l : octetsOf a (a .first + a .length) ≤ k). inr (omega arith)) off

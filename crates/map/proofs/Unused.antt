@@ -7,14 +7,11 @@ use Rattle.map.specs.declared.Area.{Area}
 use Rattle.map.specs.declared.Profile.{Profile}
 use Rattle.map.specs.Place.{used}
 use Rattle.map.specs.Sound.{sound}
-use Rattle.map.specs.Wider.{keepsServices, wider}
+use Rattle.map.specs.Wider.{wider}
 
 pub record SameUsed (p q : Profile) : Type 0 where
   pub pid : p .pid ≡ q .pid
-  pub load : p .load ≡ q .load
-  pub dump : p .dump ≡ q .dump
-  pub check : p .check ≡ q .check
-  pub connection : p .connection ≡ q .connection
+  pub flags : p .flags ≡ q .flags
   pub count : p .count ≡ q .count
   pub areas : used p ≡ used q
 
@@ -22,10 +19,7 @@ pub record SameUsed (p q : Profile) : Type 0 where
 abbrev pub with-area : Profile → ℕ → Area → Profile
 with-area p at a = record {
   pid = p .pid;
-  load = p .load;
-  dump = p .dump;
-  check = p .check;
-  connection = p .connection;
+  flags = p .flags;
   count = p .count;
   areas = set (p .areas) at a;
 }
@@ -33,10 +27,7 @@ with-area p at a = record {
 pub unused-place : (p : Profile) (at : ℕ) (a : Area) → p .count ≤ at → SameUsed (with-area p at a) p
 unused-place p at a h = record {
   pid = refl;
-  load = refl;
-  dump = refl;
-  check = refl;
-  connection = refl;
+  flags = refl;
   count = refl;
   areas = take-set-le (p .count) (p .areas) at a h;
 }
@@ -46,11 +37,11 @@ unfolding sound
 sound-alike p q octets s = rw (s .areas, s .pid, s .count)
 
 pub wider-alike : (p q r : Profile) (octets : ℕ) → SameUsed p q → wider p r octets ≡ wider q r octets
-unfolding wider keepsServices
+unfolding wider
 wider-alike p q r octets s =
-    rw (sound-alike p q octets s, s .areas, s .pid, s .load, s .dump, s .check, s .connection)
+    rw (sound-alike p q octets s, s .areas, s .pid, s .flags)
 
 pub narrower-alike : (p q r : Profile) (octets : ℕ) → SameUsed p q → wider r p octets ≡ wider r q octets
-unfolding wider keepsServices
+unfolding wider
 narrower-alike p q r octets s =
-    rw (sound-alike p q octets s, s .areas, s .pid, s .load, s .dump, s .check, s .connection)
+    rw (sound-alike p q octets s, s .areas, s .pid, s .flags)

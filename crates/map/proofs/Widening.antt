@@ -10,47 +10,41 @@ use Rattle.map.specs.declared.Profile.{Profile}
 use Rattle.map.specs.declared.Found.{Found}
 use Rattle.map.specs.declared.Found.the-variants.{At, Nothing}
 use Rattle.map.specs.Place.{used, findIn}
-use Rattle.map.specs.Sound.{sound, every}
-use Rattle.map.specs.Wider.{covers, covered, keepsServices, wider}
-use Rattle.map.proofs.Flags.{both, or-cases, or-right}
-use Rattle.map.proofs.Soundness.{sound-facts, every-member, members-every}
+use Rattle.laws.specs.Each.{every}
+use Rattle.map.specs.Sound.{sound}
+use Rattle.map.specs.Wider.{covers, covered, keepsFlags, wider}
+use Rattle.laws.proofs.Each.{every-member, members-every}
+use Rattle.laws.proofs.Tests.{halves, or-cases, or-right}
+use Rattle.map.proofs.Soundness.{sound-facts}
 use Rattle.map.proofs.Finding.{found-member, found-id, member-found, at-is-not-nothing}
-use Rattle.map.proofs.Covering.{kept, keep, covers-facts, covers-self, covers-trans}
+use Rattle.map.proofs.Keeping.{flags-self, flags-trans}
+use Rattle.map.proofs.Covering.{covers-facts, covers-self, covers-trans}
 
 pub record WiderFacts (wide narrow : Profile) (octets : ℕ) : Type 0 where
   pub wide-sound : sound wide octets ≡ true
   pub narrow-sound : sound narrow octets ≡ true
   pub pid : wide .pid ≡ narrow .pid
-  pub load : narrow .load ≡ true → wide .load ≡ true
-  pub dump : narrow .dump ≡ true → wide .dump ≡ true
-  pub check : narrow .check ≡ true → wide .check ≡ true
-  pub connection : narrow .connection ≡ true → wide .connection ≡ true
+  pub flags : keepsFlags (wide .flags) (narrow .flags) ≡ true
   pub areas : every (covered (used wide)) (used narrow) ≡ true
 
 pub wider-facts : (wide narrow : Profile) (octets : ℕ) → wider wide narrow octets ≡ true → WiderFacts wide narrow octets
-unfolding wider keepsServices
+unfolding wider
 wider-facts wide narrow octets h = record {
-  wide-sound = search both;
-  narrow-sound = search both;
-  pid = eqb-true _ _ (search both);
-  load = kept _ _ (search both);
-  dump = kept _ _ (search both);
-  check = kept _ _ (search both);
-  connection = kept _ _ (search both);
-  areas = search both;
+  wide-sound = search halves;
+  narrow-sound = search halves;
+  pid = eqb-true _ _ (search halves);
+  flags = search halves;
+  areas = search halves;
 }
 
 pub facts-wider : (wide narrow : Profile) (octets : ℕ) → WiderFacts wide narrow octets → wider wide narrow octets ≡ true
-unfolding wider keepsServices
+unfolding wider
 facts-wider wide narrow octets f =
     rw (
       f .wide-sound,
       f .narrow-sound,
       eq-eqb _ _ (f .pid),
-      keep _ _ (f .load),
-      keep _ _ (f .dump),
-      keep _ _ (f .check),
-      keep _ _ (f .connection),
+      f .flags,
     )
     (f .areas)
 
@@ -74,10 +68,7 @@ wider-self p octets s = facts-wider p p octets (record {
   wide-sound = s;
   narrow-sound = s;
   pid = refl;
-  load = λ h. h;
-  dump = λ h. h;
-  check = λ h. h;
-  connection = λ h. h;
+  flags = flags-self (p .flags);
   areas = members-every (covered (used p)) (used p) (λ a m. member-covers a m (covers-self a));
 })
 
@@ -90,10 +81,7 @@ wider-trans a b c octets h k =
       wide-sound = f .wide-sound;
       narrow-sound = g .narrow-sound;
       pid = f .pid ∙ g .pid;
-      load = λ l. f .load (g .load l);
-      dump = λ l. f .dump (g .dump l);
-      check = λ l. f .check (g .check l);
-      connection = λ l. f .connection (g .connection l);
+      flags = flags-trans (a .flags) (b .flags) (c .flags) (f .flags) (g .flags);
       areas = members-every (covered (used a)) (used c) (λ z m.
           let y = covered-by (used b) z (every-member (covered (used b)) m (g .areas)) in
           let x = covered-by (used a) (y .0) (every-member (covered (used a)) (y .1) (f .areas)) in
@@ -123,3 +111,20 @@ wider-none wide narrow octets id h k = none (findIn id (used narrow)) refl
     none : (o : Found) → findIn id (used narrow) ≡ o → o ≡ Nothing
     none (At a) e = let w = wider-finds wide narrow octets id a h e in absurd (at-is-not-nothing _ (w .0) (w .1) k)
     none Nothing e = refl
+
+-- What a narrower profile finds by a memory ID and what a wider one finds: where the narrower has an area, the wider has one that covers it.
+pub data Widened : Found → Found → Type 0 where
+  nowhere : {o : Found} → Widened Nothing o
+  widening : {a b : Area} → covers b a ≡ true → Widened (At a) (At b)
+
+pub widened : (wide narrow : Profile) (octets id : ℕ) → wider wide narrow octets ≡ true
+    → Widened (findIn id (used narrow)) (findIn id (used wide))
+widened wide narrow octets id h = go (findIn id (used narrow)) (findIn id (used wide)) refl refl
+  where
+    go : (o p : Found) → findIn id (used narrow) ≡ o → findIn id (used wide) ≡ p → Widened o p
+    go Nothing p e f = nowhere
+    go (At a) Nothing e f = let w = wider-finds wide narrow octets id a h e in absurd (at-is-not-nothing _ (w .0) (w .1) f)
+    go (At a) (At b) e f =
+        let w = wider-finds wide narrow octets id a h e in
+        let same : w .0 ≡ b = cc in
+        widening (rw same at (w .2))

@@ -1,4 +1,5 @@
 pub mod Place
 pub mod Sound
 pub mod Wider
+pub mod Made
 pub mod Examples

@@ -3,13 +3,22 @@ use mathlib.Core.Bool.{Bool, true, not, _&&_, _||_}
 use mathlib.Core.List.{List, [], _∷_}
 use Prim.Native.Nat.{ℕ, _+_, _%_, _^_}
 use lib.Dec.{leb, eqb}
+use Rattle.laws.specs.Each.{every}
 use Rattle.map.specs.declared.Area.{Area}
 use Rattle.map.specs.declared.Profile.{Profile}
-use Rattle.map.specs.Place.{used, octetsOf}
+use Rattle.map.specs.Place.{areasMost, used, octetsOf}
+
+-- The most octets of a store.
+abbrev pub storeMost : ℕ
+storeMost = 65536
+
+-- The largest process ID.
+abbrev pub pidMost : ℕ
+pidMost = 127
 
 -- A store that may be lent: even in length, and at most 65,536 octets.
 unfoldable pub storeAllowed : ℕ → Bool
-storeAllowed octets = eqb (octets % 2) 0 && leb octets 65536
+storeAllowed octets = eqb (octets % 2) 0 && leb octets storeMost
 
 -- What an area must meet by itself, over a store of that many octets.
 unfoldable pub areaSound : ℕ → Area → Bool
@@ -30,11 +39,6 @@ apart a b = ahead a b || ahead b a
 unfoldable pub pairSound : Area → Area → Bool
 pairSound a b = not (eqb (a .id) (b .id)) && apart a b
 
--- A test holds of each area of a list.
-unfoldable pub every : (Area → Bool) → List Area → Bool
-every test [] = true
-every test (a ∷ rest) = test a && every test rest
-
 -- Each area of a list meets each later one.
 unfoldable pub everyPair : List Area → Bool
 everyPair [] = true
@@ -43,7 +47,7 @@ everyPair (a ∷ rest) = every (pairSound a) rest && everyPair rest
 -- A profile is sound over a store of that many octets.
 unfoldable pub sound : Profile → ℕ → Bool
 sound p octets =
-    leb (p .pid) 127
-    && leb (p .count) 8
+    leb (p .pid) pidMost
+    && leb (p .count) areasMost
     && every (areaSound octets) (used p)
     && everyPair (used p)

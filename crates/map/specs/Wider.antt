@@ -3,17 +3,20 @@ use mathlib.Core.Bool.{Bool, false, not, _&&_, _||_}
 use mathlib.Core.List.{List, [], _∷_}
 use Prim.Native.Nat.{ℕ, _+_, _-_}
 use lib.Dec.{leb, eqb}
+use Rattle.map.specs.declared.Rights.{Rights}
+use Rattle.map.specs.declared.Flags.{Flags}
 use Rattle.map.specs.declared.Area.{Area}
 use Rattle.map.specs.declared.Profile.{Profile}
 use Rattle.map.specs.Place.{used}
-use Rattle.map.specs.Sound.{sound, every}
+use Rattle.laws.specs.Each.{every}
+use Rattle.map.specs.Sound.{sound}
 
 -- What is set in the narrower is set in the wider.
 abbrev pub keeps : Bool → Bool → Bool
 keeps wide narrow = wide || not narrow
 
--- An area has at least the rights of another.
-unfoldable pub keepsRights : Area → Area → Bool
+-- Each right of the narrower is one of the wider.
+unfoldable pub keepsRights : Rights → Rights → Bool
 keepsRights wide narrow =
     keeps (wide .load) (narrow .load)
     && keeps (wide .dump) (narrow .dump)
@@ -30,7 +33,7 @@ keepsWords wide narrow =
 unfoldable pub covers : Area → Area → Bool
 covers wide narrow =
     eqb (wide .id) (narrow .id)
-    && keepsRights wide narrow
+    && keepsRights (wide .rights) (narrow .rights)
     && keepsWords wide narrow
 
 -- Some area of a list covers a given one.
@@ -39,8 +42,8 @@ covered [] narrow = false
 covered (a ∷ rest) narrow = covers a narrow || covered rest narrow
 
 -- Each service flag that is set in the narrower is set in the wider.
-unfoldable pub keepsServices : Profile → Profile → Bool
-keepsServices wide narrow =
+unfoldable pub keepsFlags : Flags → Flags → Bool
+keepsFlags wide narrow =
     keeps (wide .load) (narrow .load)
     && keeps (wide .dump) (narrow .dump)
     && keeps (wide .check) (narrow .check)
@@ -52,5 +55,5 @@ wider wide narrow octets =
     sound wide octets
     && sound narrow octets
     && eqb (wide .pid) (narrow .pid)
-    && keepsServices wide narrow
+    && keepsFlags (wide .flags) (narrow .flags)
     && every (covered (used wide)) (used narrow)

@@ -8,6 +8,21 @@ pub mod place; // place.rt: which area has a memory ID, and where its words stan
 pub mod sound; // sound.rt: when a profile is sound over a store
 pub mod wider; // wider.rt: when one profile is wider than another
 
+// What may be done in an area.
+pub struct Rights {
+    pub load: bool,
+    pub dump: bool,
+    pub check: bool,
+}
+
+// Which services are offered.
+pub struct Flags {
+    pub load: bool,
+    pub dump: bool,
+    pub check: bool,
+    pub connection: bool,
+}
+
 // Some consecutive addresses of one memory, and where their words stand in the store.
 pub struct Area {
     // The memory ID.
@@ -18,18 +33,13 @@ pub struct Area {
     pub length: u32,
     // The store word that holds the first one.
     pub first: u32,
-    pub load: bool,
-    pub dump: bool,
-    pub check: bool,
+    pub rights: Rights,
 }
 
 // Who is addressed, which services it offers, and its areas: the first `count` places of `areas`.
 pub struct Profile {
     pub pid: u8,
-    pub load: bool,
-    pub dump: bool,
-    pub check: bool,
-    pub connection: bool,
+    pub flags: Flags,
     pub count: u8,
     pub areas: [Area; 8],
 }
@@ -40,12 +50,18 @@ pub enum Found {
     Nothing,
 }
 
+// How many octets a word is.
+const WORD: u8 = 2;
+
+// The most areas.
+const AREAS: usize = 8;
+
 // The eight places with one of them set; a place past the eighth changes nothing.
 pub fn set_area(areas: [Area; 8], at: usize, area: Area) -> [Area; 8]
     ensures { λ r. ⌜ r ≡ set areas at area ⌝ }
 {
     let mut all = areas;
-    if at < 8 {
+    if at < AREAS {
         all[at] = area;
     }
     all
@@ -58,10 +74,10 @@ fn end_of(from: u32, words: u32) -> u64
     (from as u64) + (words as u64)
 }
 
-// How many octets a number of an area's words is: a word is 2 octets.
+// How many octets a number of an area's words is.
 fn octets_in(area: Area, words: u64) -> u64
     requires { ⌜ words ≤ 2 ^ 33 ⌝ }
     ensures { λ r. ⌜ r ≡ octetsOf area words ⌝ }
 {
-    words * 2
+    words * (WORD as u64)
 }

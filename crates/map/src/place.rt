@@ -1,18 +1,28 @@
 // Which area has a memory ID, whether a block lies inside an area, and where its words stand in the store.
 ghost use mathlib.Core.Path.{_≡_};
 ghost use Prim.Native.Nat.{min};
-ghost use Rattle.map.specs.Place.{findIn, used, inside, octetAt, octetsOf};
+ghost use Rattle.map.specs.Place.{areasMost, wordOctets, findIn, used, inside, octetAt, octetsOf, storedAt};
+use super::AREAS;
 use super::Area;
 use super::Found;
 use super::Profile;
+use super::WORD;
 use super::end_of;
 use super::octets_in;
 
 // How many of the eight places a count uses.
 fn places_used(count: u8) -> usize
-    ensures { λ r. ⌜ r ≡ min count 8 ⌝ }
+    ensures { λ r. ⌜ r ≡ min count areasMost ⌝ }
 {
-    if count < 8 { count as usize } else { 8 }
+    let used = count as usize;
+    if used < AREAS { used } else { AREAS }
+}
+
+// How many octets a word is.
+pub fn word_octets() -> u8
+    ensures { λ r. ⌜ r ≡ wordOctets ⌝ }
+{
+    WORD
 }
 
 // The first area of a profile that has a memory ID.
@@ -57,4 +67,13 @@ pub fn octet_at(area: Area, address: u32) -> usize
         return octets_in(area, area.first as u64) as usize;
     }
     octets_in(area, end_of(area.first, address - area.start)) as usize
+}
+
+// The octets in the store of so many words of an area from an address on.
+pub fn stored<'a>(area: Area, store: &'a [u8], start: u32, words: u32) -> &'a [u8]
+    ensures { λ r. ⌜ now r ≡ storedAt area (now (store .entry)) start words ⌝ }
+{
+    let from = octet_at(area, start);
+    let octets = octets_of(area, words);
+    octets::copy::part(store, from, from + octets)
 }

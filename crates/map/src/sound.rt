@@ -2,17 +2,29 @@
 ghost use mathlib.Core.Path.{_≡_};
 ghost use Prim.Native.Nat.{_≤_};
 ghost use lib.ListN.{take};
-ghost use Rattle.map.specs.Sound.{sound, storeAllowed, areaSound, ahead, apart, pairSound, every, everyPair};
+ghost use Rattle.laws.specs.Each.{every};
+ghost use Rattle.map.specs.Place.{areasMost};
+ghost use Rattle.map.specs.Sound.{sound, storeAllowed, areaSound, ahead, apart, pairSound, everyPair};
+use super::AREAS;
 use super::Area;
 use super::Profile;
 use super::end_of;
 use super::octets_in;
 
+// The most octets of a store.
+const STORE_MOST: usize = 65536;
+
+// How many addresses there are.
+const ADDRESSES: u64 = 4294967296;
+
+// The largest process ID.
+const PID_MOST: u8 = 127;
+
 // Whether a store may be lent.
 pub fn store_allowed(octets: usize) -> bool
     ensures { λ r. ⌜ r ≡ storeAllowed octets ⌝ }
 {
-    octets % 2 == 0 && octets <= 65536
+    octets % 2 == 0 && octets <= STORE_MOST
 }
 
 // What an area must meet by itself, over a store of that many octets.
@@ -23,7 +35,7 @@ fn is_area_sound(octets: usize, area: Area) -> bool
     if length < 1 {
         return false;
     }
-    if end_of(area.start, length) > 4294967296 {
+    if end_of(area.start, length) > ADDRESSES {
         return false;
     }
     octets_in(area, end_of(area.first, length)) <= octets as u64
@@ -55,7 +67,7 @@ fn is_pair_sound(a: Area, b: Area) -> bool
 
 // Whether each of the first `count` areas is sound by itself.
 fn each_sound(areas: [Area; 8], count: usize, octets: usize) -> bool
-    requires { ⌜ count ≤ 8 ⌝ }
+    requires { ⌜ count ≤ areasMost ⌝ }
     ensures { λ r. ⌜ r ≡ every (areaSound octets) (take count areas) ⌝ }
 {
     let mut i: usize = 0;
@@ -70,7 +82,7 @@ fn each_sound(areas: [Area; 8], count: usize, octets: usize) -> bool
 
 // Whether each of the first `count` areas meets each later one.
 fn pairs_sound(areas: [Area; 8], count: usize) -> bool
-    requires { ⌜ count ≤ 8 ⌝ }
+    requires { ⌜ count ≤ areasMost ⌝ }
     ensures { λ r. ⌜ r ≡ everyPair (take count areas) ⌝ }
 {
     let mut sound = true;
@@ -93,14 +105,14 @@ fn pairs_sound(areas: [Area; 8], count: usize) -> bool
 pub fn is_sound(profile: Profile, octets: usize) -> bool
     ensures { λ r. ⌜ r ≡ sound profile octets ⌝ }
 {
-    if profile.pid > 127 {
+    if profile.pid > PID_MOST {
         return false;
     }
-    if profile.count > 8 {
+    let count = profile.count as usize;
+    if count > AREAS {
         return false;
     }
     let areas = profile.areas;
-    let count = profile.count as usize;
     if !each_sound(areas, count, octets) {
         return false;
     }

@@ -2,10 +2,13 @@
 ghost use mathlib.Core.Path.{_≡_};
 ghost use Prim.Native.Nat.{_≤_};
 ghost use lib.ListN.{take};
-ghost use Rattle.map.specs.Sound.{every};
-ghost use Rattle.map.specs.Wider.{wider, keeps, keepsRights, keepsWords, keepsServices, covers, covered};
+ghost use Rattle.laws.specs.Each.{every};
+ghost use Rattle.map.specs.Place.{areasMost};
+ghost use Rattle.map.specs.Wider.{wider, keeps, keepsRights, keepsFlags, keepsWords, covers, covered};
 use super::Area;
+use super::Flags;
 use super::Profile;
+use super::Rights;
 use super::end_of;
 use super::sound::is_sound;
 
@@ -16,8 +19,8 @@ fn is_kept(wide: bool, narrow: bool) -> bool
     wide || !narrow
 }
 
-// Whether an area has at least the rights of another.
-fn keeps_rights(wide: Area, narrow: Area) -> bool
+// Whether there are at least the rights of another area.
+fn keeps_rights(wide: Rights, narrow: Rights) -> bool
     ensures { λ r. ⌜ r ≡ keepsRights wide narrow ⌝ }
 {
     if !is_kept(wide.load, narrow.load) {
@@ -49,7 +52,7 @@ fn does_cover(wide: Area, narrow: Area) -> bool
     if wide.id != narrow.id {
         return false;
     }
-    if !keeps_rights(wide, narrow) {
+    if !keeps_rights(wide.rights, narrow.rights) {
         return false;
     }
     keeps_words(wide, narrow)
@@ -57,7 +60,7 @@ fn does_cover(wide: Area, narrow: Area) -> bool
 
 // Whether one of the first `count` areas serves for one of the narrower.
 fn is_covered(areas: [Area; 8], count: usize, narrow: Area) -> bool
-    requires { ⌜ count ≤ 8 ⌝ }
+    requires { ⌜ count ≤ areasMost ⌝ }
     ensures { λ r. ⌜ r ≡ covered (take count areas) narrow ⌝ }
 {
     let mut i: usize = 0;
@@ -72,7 +75,7 @@ fn is_covered(areas: [Area; 8], count: usize, narrow: Area) -> bool
 
 // Whether each of the first `inner` areas of the narrower is served by one of the first `outer` of the wider.
 fn are_covered(wide: [Area; 8], outer: usize, narrow: [Area; 8], inner: usize) -> bool
-    requires { ⌜ (outer ≤ 8) × (inner ≤ 8) ⌝ }
+    requires { ⌜ (outer ≤ areasMost) × (inner ≤ areasMost) ⌝ }
     ensures { λ r. ⌜ r ≡ every (covered (take outer wide)) (take inner narrow) ⌝ }
 {
     let mut i: usize = 0;
@@ -85,9 +88,9 @@ fn are_covered(wide: [Area; 8], outer: usize, narrow: [Area; 8], inner: usize) -
     true
 }
 
-// Whether a profile offers at least the services of another.
-fn keeps_services(wide: Profile, narrow: Profile) -> bool
-    ensures { λ r. ⌜ r ≡ keepsServices wide narrow ⌝ }
+// Whether there are at least the flags of another profile.
+fn keeps_flags(wide: Flags, narrow: Flags) -> bool
+    ensures { λ r. ⌜ r ≡ keepsFlags wide narrow ⌝ }
 {
     if !is_kept(wide.load, narrow.load) {
         return false;
@@ -114,7 +117,7 @@ pub fn is_wider(wide: Profile, narrow: Profile, octets: usize) -> bool
     if wide.pid != narrow.pid {
         return false;
     }
-    if !keeps_services(wide, narrow) {
+    if !keeps_flags(wide.flags, narrow.flags) {
         return false;
     }
     let outer = wide.areas;

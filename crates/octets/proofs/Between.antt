@@ -1,7 +1,7 @@
 -- Laws of `between`: a part that lies in its slice.
 -- Assumes nothing.
-use mathlib.Core.Path.{_≡_, refl, ap, _∙_}
-use mathlib.Core.Bool.{Bool, true, false, _&&_}
+use mathlib.Core.Path.{_≡_, ap, _∙_}
+use mathlib.Core.Bool.{_&&_}
 use mathlib.Core.List.{List, []}
 use Prim.Native.Nat.{ℕ, _-_, _≤_, _<_, zero-le}
 use native.Mathlib.Nat.{sub-zero}
@@ -10,7 +10,8 @@ use lib.ListN.{length, take, drop, length-take, length-drop}
 use lib.Dec.{leb}
 use borrow.Author.Tests.{le-leb, lt-leb}
 use Rattle.octets.specs.Copy.{between}
-use Rattle.octets.proofs.Order.{by-order}
+use Rattle.laws.proofs.Order.{by-order}
+use Rattle.laws.proofs.Tests.{by-test}
 
 pub between-eq : (start end : ℕ) (s : List ℕ) → start ≤ end → end ≤ length s → between start end s ≡ take (end - start) (drop start s)
 unfolding between
@@ -36,7 +37,3 @@ between-most start end s =
     by-test (leb start end && leb end (length s))
     (λ t. rw t (simp (length-take, length-drop) (omega arith)))
     (λ e. rw e zero-le)
-  where
-    by-test : {X : Type 0} (b : Bool) → (b ≡ true → X) → (b ≡ false → X) → X
-    by-test true f g = f refl
-    by-test false f g = g refl

@@ -1,15 +1,16 @@
 -- Laws of `laid`: the length is kept, octets past the end are dropped, two copies in a row are one copy of the concatenation, and what stands in the buffer afterwards.
 -- Assumes nothing.
 use mathlib.Core.Path.{_≡_, refl, sym, ap, _∙_}
+use mathlib.Core.Logic.{_⊎_, inl, inr, ⊎-elim}
 use mathlib.Core.List.{List, [], _∷_, _++_}
 use Prim.Native.Nat.{ℕ, _+_, _-_, min, _≤_, _<_}
 use native.Mathlib.Nat.{add-zero}
 use native.Mathlib.Numerals.{add-one}
 use native.Mathlib.Omega.{arith}
 use lib.ListN.{length, getD, set, take, drop, take-append-drop, length-set}
-use lib.Seq.{sets, length-sets, sets-eq, set-out, take-suc, take-all, length-take-le, take-append-seam}
+use lib.Seq.{sets, length-sets, sets-eq, set-out, getD-set-other, take-suc, take-all, length-take-le, take-append-seam}
 use Rattle.octets.specs.Copy.{laid}
-use Rattle.octets.proofs.Order.{by-order}
+use Rattle.laws.proofs.Order.{by-order}
 
 -- `laid` is the library's run of stores.
 laid-sets : (d : List ℕ) (at : ℕ) (s : List ℕ) → laid d at s ≡ sets d at s
@@ -69,3 +70,12 @@ laid-eq d at s h = laid-sets d at s ∙ sets-eq s d at h
 -- At the front of a buffer that has room, what was laid is what the buffer begins with.
 pub laid-front : (d s : List ℕ) → length s ≤ length d → take (length s) (laid d 0 s) ≡ s
 laid-front d s h = ap (λ (r : List ℕ). take (length s) r) (laid-eq d 0 s (omega arith)) ∙ take-append-seam s (drop (0 + length s) d)
+
+-- Octets laid into a buffer change none that stands before them or behind them.
+pub laid-elsewhere : (d : List ℕ) (at : ℕ) (s : List ℕ) (k : ℕ) → (k < at) ⊎ (at + length s ≤ k) → getD (laid d at s) k 0 ≡ getD d k 0
+unfolding laid
+laid-elsewhere d at [] k h = refl
+laid-elsewhere d at (x ∷ s) k h =
+    let other : k ≡ at → ⊥ = λ e. ⊎-elim (λ (l : k < at). omega arith) (λ (l : at + length (x ∷ s) ≤ k). omega arith) h in
+    let more : (k < at + 1) ⊎ (at + 1 + length s ≤ k) = ⊎-elim (λ (l : k < at). inl (omega arith)) (λ (l : at + length (x ∷ s) ≤ k). inr (omega arith)) h in
+    laid-elsewhere (set d at x) (at + 1) s k more ∙ getD-set-other d at k x 0 other

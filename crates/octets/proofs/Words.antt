@@ -18,11 +18,7 @@ word16-past s at h = omega (arith, octet-past s at h, octet-past s (at + 1) (ome
 pub word32-past : (s : List ℕ) (at : ℕ) → length s ≤ at → word32 s at ≡ 0
 word32-past s at h = omega (arith, word16-past s at h, word16-past s (at + 2) (omega arith))
 
--- The octets of a number are the number again.
-pub word16-of-octets16 : (x : ℕ) (rest : List ℕ) → word16 (octets16 x ++ rest) 0 ≡ x
-word16-of-octets16 x rest = omega arith
-
--- Behind other octets too.
+-- The octets of a number are the number again, behind other octets too.
 pub word16-behind : (s : List ℕ) (x : ℕ) (rest : List ℕ) → word16 (s ++ (octets16 x ++ rest)) (length s) ≡ x
 word16-behind s x rest =
     let high : octet (s ++ (octets16 x ++ rest)) (length s) ≡ x / 256 = getD-append-seam s (x / 256) (x % 256 ∷ rest) 0 in

@@ -1,4 +1,3 @@
 pub mod Numbers
 pub mod Fields
-pub mod Count
 pub mod Copy

@@ -2,7 +2,13 @@
 ghost use mathlib.Core.Path.{_≡_};
 ghost use Prim.Native.Nat.{_-_, min};
 ghost use lib.ListN.{length};
-ghost use Rattle.octets.specs.Copy.{laid, between};
+ghost use Rattle.octets.specs.Copy.{laid, between, placed};
+
+// A part of a slice, by the places where it begins and ends.
+pub struct Span {
+    pub from: usize,
+    pub to: usize,
+}
 
 // Lays octets over a buffer's own from a place on and answers how many they are; those that would stand past its end are dropped.
 pub fn put(buffer: &mut [u8], at: usize, octets: &[u8]) -> usize
@@ -42,4 +48,11 @@ pub fn part(s: &[u8], start: usize, end: usize) -> &[u8]
         return &s[..0];
     }
     &s[start..end]
+}
+
+// The octets of a slice that a part names.
+pub fn placed(s: &[u8], p: Span) -> &[u8]
+    ensures { λ r. ⌜ now r ≡ placed p (now (s .entry)) ⌝ }
+{
+    part(s, p.from, p.to)
 }

@@ -1,7 +1,6 @@
 // The fields of a packet's headers, taken apart and put together by shifts and masks; the contracts say the same in division and remainder.
 ghost use mathlib.Core.Path.{_≡_};
 ghost use Rattle.octets.specs.Fields.{packetId, idOf, sequence, controlOf, header, headerOf, apidOf};
-ghost use Rattle.octets.specs.Count.{nextCount};
 
 // A packet ID's fields: version 3 bits, type 1 bit, data field header flag 1 bit, APID 11 bits.
 pub struct PacketId {
@@ -77,11 +76,4 @@ pub fn join_apid(pid: u16, category: u16) -> u16
     ensures { λ r. ⌜ r ≡ apidOf pid category ⌝ }
 {
     ((pid & 127) << 4) | (category & 15)
-}
-
-// The count after a count: 16,383 is followed by 0.
-pub fn next_count(count: u16) -> u16
-    ensures { λ r. ⌜ r ≡ nextCount count ⌝ }
-{
-    std::num::wrapping_add_u16(count, 1) % 16384
 }

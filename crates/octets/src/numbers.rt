@@ -3,6 +3,9 @@ ghost use mathlib.Core.Path.{_≡_};
 ghost use Prim.Native.Nat.{_<_};
 ghost use Rattle.octets.specs.Numbers.{octet, word16, word32, octets16, octets32};
 
+// How many values an octet has.
+pub const VALUES: u16 = 256;
+
 // An octet as a wider number.
 pub fn wide(x: u8) -> u16
     ensures { λ r. ⌜ (r ≡ x) × (r < 256) ⌝ }
@@ -26,7 +29,7 @@ pub fn word16_at(s: &[u8], at: usize) -> u16
     }
     let high = octet_at(s, at);
     let low = octet_at(s, at + 1);
-    high * 256 + low
+    high * VALUES + low
 }
 
 // The number of 32 bits at a place; octets past the end count as 0.
@@ -45,7 +48,7 @@ pub fn word32_at(s: &[u8], at: usize) -> u32
 pub fn octets_of16(x: u16) -> [u8; 2]
     ensures { λ r. ⌜ r ≡ octets16 x ⌝ }
 {
-    [(x / 256) as u8, (x % 256) as u8]
+    [(x / VALUES) as u8, (x % VALUES) as u8]
 }
 
 // The four octets of a number.

@@ -1,4 +1,3 @@
-pub mod Exactly
 pub mod Judged
 pub mod Ordered
 pub mod RoundTrip

@@ -12,33 +12,33 @@ use Rattle.octets.specs.Numbers.{octets16}
 use Rattle.octets.specs.Copy.{laid}
 use Rattle.octets.proofs.Laid.{laid-append, laid-front}
 use Rattle.checks.specs.Table.{answer}
-use Rattle.checks.proofs.Table.{by-test}
+use Rattle.laws.proofs.Tests.{by-test}
 use Rattle.tc.specs.declared.Fields.{Fields}
 use Rattle.tc.specs.declared.Order.{Order}
-use Rattle.tc.specs.Layout.{errorControl, headOf, bodyOf, packetOf}
+use Rattle.tc.specs.Layout.{around, dataMost, headSize, errorControl, headOf, bodyOf, packetOf}
 use Rattle.tc.specs.Writer.{fieldsRight, writerRows, writtenOf, isPacket}
 
 pub packet-checks : (o : Order) (octets room : ℕ) → isPacket (writtenOf o octets room) ≡ true
-    → (fieldsRight o ≡ true) × (octets ≤ 236) × (octets + 12 ≤ room)
+    → (fieldsRight o ≡ true) × (octets ≤ dataMost) × (octets + around ≤ room)
 unfolding writtenOf writerRows answer
 packet-checks o octets room h =
     by-test (fieldsRight o)
     (λ f.
-    by-test (leb octets 236)
+    by-test (leb octets dataMost)
     (λ d.
-    by-test (leb (octets + 12) room)
-    (λ r. (f, leb-true octets 236 d, leb-true (octets + 12) room r))
+    by-test (leb (octets + around) room)
+    (λ r. (f, leb-true octets dataMost d, leb-true (octets + around) room r))
     (λ r. absurd (false≢true (simp (f, d, r) at h))))
     (λ d. absurd (false≢true (simp (f, d) at h))))
     (λ f. absurd (false≢true (simp f at h)))
 
-pub body-length : (f : Fields) (application : List ℕ) → length (bodyOf f application) ≡ length application + 10
+pub body-length : (f : Fields) (application : List ℕ) → length (bodyOf f application) ≡ length application + headSize
 unfolding bodyOf headOf
-body-length f application = length-append (headOf f (length application)) application ∙ add-comm 10 (length application)
+body-length f application = length-append (headOf f (length application)) application ∙ add-comm headSize (length application)
 
 -- The body laid first, and then the error control over what the buffer holds, are the packet.
 pub laid-packet : (d : List ℕ) (f : Fields) (application d₁ d₂ : List ℕ) (end control : ℕ)
-    → length application + 10 ≤ length d → end ≡ length application + 10 → d₁ ≡ laid d 0 (bodyOf f application)
+    → length application + headSize ≤ length d → end ≡ length application + headSize → d₁ ≡ laid d 0 (bodyOf f application)
     → control ≡ errorControl (take end d₁) → d₂ ≡ laid d₁ end (octets16 control) → d₂ ≡ laid d 0 (packetOf f application)
 unfolding packetOf
 laid-packet d f application d₁ d₂ end control room ends body right both =

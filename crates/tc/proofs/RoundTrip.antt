@@ -16,11 +16,14 @@ use Rattle.octets.proofs.Between.{between-eq, between-length}
 use Rattle.octets.proofs.Words.{word16-behind, octets16-of-word16, run, run-drop, run-take}
 use Rattle.checks.specs.declared.Verdict.the-variants.{Accepted}
 use Rattle.checks.specs.Verdict.{isAccepted}
-use Rattle.checks.specs.Table.{firstFrom, AllHold}
-use Rattle.checks.proofs.Table.{accepted-all, Refusing, AllTrue, none-wrong}
+use Rattle.checks.specs.Table.{AllHold}
+use Rattle.checks.proofs.Verdicts.{accepted-holds}
+use Rattle.laws.specs.First.{firstFrom}
+use Rattle.laws.specs.Each.{Each}
+use Rattle.laws.proofs.First.{none-wrong}
 use Rattle.tc.specs.declared.Fields.{Fields}
 use Rattle.tc.specs.Layout.{errorControl, covered, fieldsOf, applicationOf, headOf, bodyOf, packetOf}
-use Rattle.tc.specs.Reader.{noFields, lengthRight, controlRight, headerTests, firstFault, headerFault, readerRows, judged, readingOf, dataFor}
+use Rattle.tc.specs.Reader.{noFields, lengthRight, controlRight, headerTests, firstFault, headerFault, readerRows, judged, readingOf, dataRead}
 use Rattle.tc.specs.declared.Order.{Order}
 use Rattle.tc.specs.Writer.{fieldsFor, fieldsRight}
 use Rattle.tc.proofs.Judged.{judged-accepted}
@@ -111,13 +114,13 @@ abbrev pub Octets : List ℕ → Type 0
 Octets p = (k : ℕ) → octet p k < 256
 
 clean : (p : List ℕ) → judged p ≡ Accepted → Clean p
-unfolding readerRows lengthRight controlRight headerFault firstFault AllHold AllTrue Refusing judged
+unfolding readerRows lengthRight controlRight headerFault firstFault AllHold judged
 clean p h =
-    let rows : AllHold (readerRows p) = accepted-all isAccepted Accepted (readerRows p) (refl, (refl, (refl, (refl, tt)))) (ap isAccepted h) in
+    let rows : AllHold (readerRows p) = accepted-holds (readerRows p) (ap isAccepted h) in
     let sizes = and-eq-true-iff (leb 12 (length p) && leb (length p) 248) (eqb (length p) (word16 p 4 + 7)) .0 (rows .1 .0) in
     let ends = and-eq-true-iff (leb 12 (length p)) (leb (length p) 248) .0 (sizes .0) in
     let tests : List Bool = headerTests (packetId (word16 p 0)) (sequence (word16 p 2)) (header (octet p 6)) in
-    let all : AllTrue tests = none-wrong 0 tests (eqb-true _ _ (rows .1 .1 .1 .0)) in
+    let all : Each (λ (b : Bool). b ≡ true) tests = none-wrong 1 tests (omega arith) (eqb-true _ _ (rows .1 .1 .1 .0)) in
     record {
       least = leb-true _ _ (ends .0);
       most = leb-true _ _ (ends .1);
@@ -185,9 +188,10 @@ module _ (p : List ℕ) (octets : Octets p) (h : judged p ≡ Accepted) where
 
 -- A packet written from valid fields reads back as those fields and that data, accepted.
 pub written-reads : (o : Order) (application : List ℕ) → fieldsRight o ≡ true → length application ≤ 236
-    → (readingOf (packetOf (fieldsFor o) application) ≡ record { verdict = Accepted; fields = fieldsFor o })
-    × (dataFor Accepted (packetOf (fieldsFor o) application) ≡ application)
-unfolding readingOf dataFor
+    → (readingOf (packetOf (fieldsFor o) application) .verdict ≡ Accepted)
+    × (readingOf (packetOf (fieldsFor o) application) .fields ≡ fieldsFor o)
+    × (dataRead (packetOf (fieldsFor o) application) ≡ application)
+unfolding readingOf applicationOf
 written-reads o application right short =
     let all = and-eq-true-iff (leb (o .pid) 127 && leb (o .count) 16383) (leb (o .ack) 15) .0 right in
     let both = and-eq-true-iff (leb (o .pid) 127) (leb (o .count) 16383) .0 (all .0) in
@@ -197,7 +201,7 @@ written-reads o application right short =
     let p : List ℕ = packetOf (fieldsFor o) application in
     let accepted : judged p ≡ Accepted = packet-judged (fieldsFor o) application v short in
     let fields : cond (isAccepted (judged p)) (fieldsOf p) noFields ≡ fieldsFor o = rw accepted (packet-fields (fieldsFor o) application v short) in
-    (λ i. record { verdict = accepted i; fields = fields i }, packet-application (fieldsFor o) application v short)
+    (accepted, fields, rw accepted (packet-application (fieldsFor o) application v short))
 
 -- What the writer would be asked for to write a packet that was read.
 abbrev pub orderOf : Fields → Order
@@ -215,11 +219,11 @@ apid-small p = omega arith
 -- A packet that reads cleanly, with category 12, checksum flag 1 and pad 0, is written back as the same octets.
 pub read-writes : (p : List ℕ) → Octets p → readingOf p .verdict ≡ Accepted
     → readingOf p .fields .apid % 16 ≡ 12 → readingOf p .fields .checksum ≡ 1 → readingOf p .fields .pad ≡ 0
-    → packetOf (fieldsFor (orderOf (readingOf p .fields))) (dataFor (readingOf p .verdict) p) ≡ p
-unfolding readingOf dataFor
+    → packetOf (fieldsFor (orderOf (readingOf p .fields))) (dataRead p) ≡ p
+unfolding readingOf applicationOf
 read-writes p octets h category checksum pad =
     let fields : cond (isAccepted (judged p)) (fieldsOf p) noFields ≡ fieldsOf p = rw h in
-    let application : cond (isAccepted (judged p)) (applicationOf p) [] ≡ applicationOf p = rw h in
+    let application : dataRead p ≡ applicationOf p = rw h in
     let same : fieldsFor (orderOf (fieldsOf p)) ≡ fieldsOf p =
     restored (fieldsOf p) (apid-small p)
     (ap (λ (f : Fields). f .apid % 16) (sym fields) ∙ category)

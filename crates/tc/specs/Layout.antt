@@ -4,9 +4,32 @@ use Prim.Native.Nat.{ℕ, _+_, _-_}
 use lib.ListN.{length, take}
 use Rattle.octets.specs.Numbers.{octet, word16, octets16}
 use Rattle.octets.specs.Fields.{packetId, idOf, sequence, controlOf, header, headerOf, apidOf}
-use Rattle.octets.specs.Copy.{between}
+use Rattle.octets.specs.declared.copy.Span.{Span}
+use Rattle.octets.specs.Copy.{placed}
 use Rattle.crc.specs.Register.{crcOf}
 use Rattle.tc.specs.declared.Fields.{Fields}
+
+-- The category of every TC.
+abbrev pub category : ℕ
+category = 12
+
+-- The octets before the application data, and all that stand around it: those and the error control.
+abbrev pub headSize : ℕ
+headSize = 10
+
+abbrev pub around : ℕ
+around = 12
+
+-- The most octets of application data, and of a packet.
+abbrev pub dataMost : ℕ
+dataMost = 236
+
+abbrev pub packetMost : ℕ
+packetMost = 248
+
+-- The largest count, of 14 bits.
+abbrev pub countMost : ℕ
+countMost = 16383
 
 -- Error control over some octets: the CRC of document 01, whatever the checksum flag says.
 unfoldable pub errorControl : List ℕ → ℕ
@@ -28,16 +51,20 @@ fieldsOf p = record {
   pad = octet p 9;
 }
 
--- The application data: from octet 10 up to the error control.
+-- Where the application data stands: from octet 10 up to the error control.
+abbrev pub dataSpan : List ℕ → Span
+dataSpan p = record { from = headSize; to = length p - 2 }
+
+-- The application data.
 unfoldable pub applicationOf : List ℕ → List ℕ
-applicationOf p = between 10 (length p - 2) p
+applicationOf p = placed (dataSpan p) p
 
 -- The ten octets before the application data of a packet with these fields and so many octets of it; the length field is the total of octets minus 7.
 unfoldable pub headOf : Fields → ℕ → List ℕ
 headOf f octets =
     octets16 (idOf (record { version = 0; kind = 1; header = 1; apid = f .apid }))
     ++ octets16 (controlOf (record { flags = 3; count = f .count }))
-    ++ octets16 (octets + 12 - 7)
+    ++ octets16 (octets + around - 7)
     ++ headerOf (record { version = 0; checksum = f .checksum; ack = f .ack }) ∷ f .kind ∷ f .subtype ∷ f .pad ∷ []
 
 -- The octets of a packet before its error control.

@@ -10,16 +10,27 @@ use Rattle.octets.specs.declared.fields.PacketId.{PacketId}
 use Rattle.octets.specs.declared.fields.Sequence.{Sequence}
 use Rattle.octets.specs.declared.fields.Header.{Header}
 use Rattle.checks.specs.declared.Verdict.{Verdict}
-use Rattle.checks.specs.declared.Verdict.the-variants.{Accepted, Short, Length, Control, Header as BadHeader}
-use Rattle.checks.specs.Verdict.{isAccepted}
-use Rattle.checks.specs.Table.{Row, row, answer, firstWrong}
+use Rattle.checks.specs.declared.Check.the-variants.{Short, Length, Control, Header as BadHeader}
+use Rattle.checks.specs.declared.Refusal.{Refusal}
+use Rattle.checks.specs.Table.{Row}
+use Rattle.checks.specs.Verdict.{isAccepted, row, verdictBy}
+use Rattle.laws.specs.First.{firstWrong}
+use Rattle.octets.specs.Copy.{placed, nowhere}
 use Rattle.tc.specs.declared.Fields.{Fields}
 use Rattle.tc.specs.declared.Reading.{Reading}
-use Rattle.tc.specs.Layout.{errorControl, covered, fieldsOf, applicationOf}
+use Rattle.tc.specs.Layout.{around, packetMost, errorControl, covered, fieldsOf, dataSpan}
+
+-- The fewest octets that can be answered with a report.
+abbrev pub leastOctets : ℕ
+leastOctets = 6
+
+-- The largest detail.
+abbrev pub mostDetail : ℕ
+mostDetail = 65535
 
 -- The received count is at least 12, at most 248, and the length field plus 7.
 unfoldable pub lengthRight : List ℕ → Bool
-lengthRight p = leb 12 (length p) && leb (length p) 248 && eqb (length p) (word16 p 4 + 7)
+lengthRight p = leb around (length p) && leb (length p) packetMost && eqb (length p) (word16 p 4 + 7)
 
 -- The error control received, the last two octets, is the right value.
 unfoldable pub controlRight : List ℕ → Bool
@@ -44,17 +55,17 @@ unfoldable pub headerFault : List ℕ → ℕ
 headerFault p = firstFault (packetId (word16 p 0)) (sequence (word16 p 2)) (header (octet p 6))
 
 -- The reader's rows of the table, in its order.
-unfoldable pub readerRows : List ℕ → List (Row Verdict)
+unfoldable pub readerRows : List ℕ → List (Row Refusal)
 readerRows p =
-    row Short (leb 6 (length p))
-    ∷ row (Length (min (length p) 65535)) (lengthRight p)
-    ∷ row (Control (errorControl (covered p))) (controlRight p)
-    ∷ row (BadHeader (headerFault p)) (eqb (headerFault p) 0)
+    row Short 0 (leb leastOctets (length p))
+    ∷ row Length (min (length p) mostDetail) (lengthRight p)
+    ∷ row Control (errorControl (covered p)) (controlRight p)
+    ∷ row BadHeader (headerFault p) (eqb (headerFault p) 0)
     ∷ []
 
 -- The reader's verdict.
 unfoldable pub judged : List ℕ → Verdict
-judged p = answer Accepted (readerRows p)
+judged p = verdictBy (readerRows p)
 
 -- The fields of a refused packet: all of them 0.
 abbrev pub noFields : Fields
@@ -62,8 +73,12 @@ noFields = record { apid = 0; count = 0; checksum = 0; ack = 0; kind = 0; subtyp
 
 -- What the reader returns.
 unfoldable pub readingOf : List ℕ → Reading
-readingOf p = record { verdict = judged p; fields = cond (isAccepted (judged p)) (fieldsOf p) noFields }
+readingOf p = record {
+  verdict = judged p;
+  fields = cond (isAccepted (judged p)) (fieldsOf p) noFields;
+  «data» = cond (isAccepted (judged p)) (dataSpan p) nowhere;
+}
 
--- The application data that goes with a verdict on a packet: an empty part where it was refused.
-unfoldable pub dataFor : Verdict → List ℕ → List ℕ
-dataFor v p = cond (isAccepted v) (applicationOf p) []
+-- The application data that the reader hands back, a part of the packet: an empty one where it was refused.
+abbrev pub dataRead : List ℕ → List ℕ
+dataRead p = placed (readingOf p .«data») p

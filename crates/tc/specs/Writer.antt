@@ -1,4 +1,5 @@
 -- Document 01, "The writer": what it refuses, in order, and what an accepted write leaves in the buffer.
+use mathlib.Core.Path.{_≡_}
 use mathlib.Core.Bool.{Bool, true, false, cond, _&&_}
 use mathlib.Core.List.{List, [], _∷_}
 use Prim.Native.Nat.{ℕ, _+_}
@@ -6,12 +7,12 @@ use lib.ListN.{length}
 use lib.Dec.{leb}
 use Rattle.octets.specs.Fields.{apidOf}
 use Rattle.octets.specs.Copy.{laid}
-use Rattle.checks.specs.Table.{Row, row, answer}
+use Rattle.checks.specs.Table.{Row, answer}
 use Rattle.tc.specs.declared.Fields.{Fields}
 use Rattle.tc.specs.declared.Order.{Order}
 use Rattle.tc.specs.declared.Written.{Written}
 use Rattle.tc.specs.declared.Written.the-variants.{Packet, BadField, BadData, NoRoom}
-use Rattle.tc.specs.Layout.{packetOf}
+use Rattle.tc.specs.Layout.{category, around, dataMost, countMost, packetOf}
 
 -- The number of each answer of the writer: 50, 51, 52; 0 stands for a packet written.
 abbrev pub writtenNumber : Written → ℕ
@@ -30,7 +31,7 @@ writtenLength NoRoom = 0
 -- The writer sets category 12, checksum flag 1 and pad 0.
 abbrev pub fieldsFor : Order → Fields
 fieldsFor o = record {
-  apid = apidOf (o .pid) 12;
+  apid = apidOf (o .pid) category;
   count = o .count;
   checksum = 1;
   ack = o .ack;
@@ -41,19 +42,19 @@ fieldsFor o = record {
 
 -- The PID is at most 127, the count at most 16,383 and the ack at most 15.
 abbrev pub fieldsRight : Order → Bool
-fieldsRight o = leb (o .pid) 127 && leb (o .count) 16383 && leb (o .ack) 15
+fieldsRight o = leb (o .pid) 127 && leb (o .count) countMost && leb (o .ack) 15
 
 -- The writer's checks, in their order, for application data of that many octets and a buffer of that room.
 unfoldable pub writerRows : Order → ℕ → ℕ → List (Row Written)
 writerRows o octets room =
-    row BadField (fieldsRight o)
-    ∷ row BadData (leb octets 236)
-    ∷ row NoRoom (leb (octets + 12) room)
+    record { refusal = BadField; holds = fieldsRight o }
+    ∷ record { refusal = BadData; holds = leb octets dataMost }
+    ∷ record { refusal = NoRoom; holds = leb (octets + around) room }
     ∷ []
 
 -- The writer's answer: the packet's length is the data plus 12.
 unfoldable pub writtenOf : Order → ℕ → ℕ → Written
-writtenOf o octets room = answer (Packet (octets + 12)) (writerRows o octets room)
+writtenOf o octets room = answer (Packet (octets + around)) (λ refusal. refusal) (writerRows o octets room)
 
 -- Whether a packet was written.
 abbrev pub isPacket : Written → Bool
@@ -68,3 +69,8 @@ bufferAfter o application buffer =
     cond (isPacket (writtenOf o (length application) (length buffer)))
     (laid buffer 0 (packetOf (fieldsFor o) application))
     buffer
+
+-- What a caller is promised: the answer, and the buffer afterwards.
+pub record Writes (o : Order) (application buffer : List ℕ) (r : Written) (buffer′ : List ℕ) : Type 0 where
+  pub answer-is : r ≡ writtenOf o (length application) (length buffer)
+  pub buffer-is : buffer′ ≡ bufferAfter o application buffer

@@ -5,6 +5,22 @@ ghost use Rattle.tc.specs.Layout.{errorControl};
 pub mod reader;
 pub mod writer;
 
+// The category of every TC.
+pub const CATEGORY: u16 = 12;
+
+// The octets before the application data, and all that stand around it: those and the error control.
+const HEAD: usize = 10;
+
+const AROUND: usize = 12;
+
+// The most octets of application data, and of a packet.
+const DATA_MOST: usize = 236;
+
+const PACKET_MOST: usize = 248;
+
+// The largest count.
+const COUNT_MOST: u16 = 16383;
+
 // What a TC packet carries besides its application data.
 pub struct Fields {
     pub apid: u16,
@@ -16,10 +32,11 @@ pub struct Fields {
     pub pad: u8,
 }
 
-// What the reader returns: the verdict, and the fields, all of them 0 where the packet is refused.
+// What the reader returns: the verdict, the fields, and the part of the packet that is its application data; where the packet is refused all fields are 0 and the part is empty.
 pub struct Reading {
     pub verdict: checks::Verdict,
     pub fields: Fields,
+    pub data: octets::copy::Span,
 }
 
 // What the writer is asked to put into a packet besides its application data.

@@ -1,7 +1,12 @@
 // The reader: checks 42, 1, 2 and 16 on any octets at all, the fields, and the application data as a part of the packet itself.
+use crate::AROUND;
 use crate::Fields;
+use crate::HEAD;
+use crate::PACKET_MOST;
 use crate::Reading;
+use checks::Check;
 use checks::Verdict;
+use octets::copy::Span;
 use octets::fields::Header;
 use octets::fields::PacketId;
 use octets::fields::Sequence;
@@ -10,8 +15,14 @@ ghost use Prim.Native.Nat.{_-_, min};
 ghost use lib.ListN.{length};
 ghost use Rattle.octets.specs.Numbers.{octet, word16};
 ghost use Rattle.octets.specs.Fields.{packetId, sequence, header};
-ghost use Rattle.tc.specs.Layout.{errorControl, covered, fieldsOf, applicationOf};
-ghost use Rattle.tc.specs.Reader.{lengthRight, firstFault, headerFault, judged, readingOf, dataFor};
+ghost use Rattle.tc.specs.Layout.{errorControl, covered, fieldsOf, dataSpan};
+ghost use Rattle.tc.specs.Reader.{lengthRight, firstFault, headerFault, judged, readingOf};
+
+// The fewest octets that can be answered with a report.
+const LEAST: usize = 6;
+
+// The largest detail.
+const DETAIL_MOST: u16 = 65535;
 
 // Reads a packet.
 pub fn read(p: &[u8]) -> Reading
@@ -22,6 +33,7 @@ pub fn read(p: &[u8]) -> Reading
         Reading {
             verdict,
             fields: fields(p),
+            data: data_span(p),
         }
     } else {
         Reading {
@@ -35,18 +47,19 @@ pub fn read(p: &[u8]) -> Reading
                 subtype: 0,
                 pad: 0,
             },
+            data: Span { from: 0, to: 0 },
         }
     }
 }
 
-// The application data of a packet that was read with this verdict: from octet 10 up to the error control, an empty part where it was refused.
-pub fn application<'a>(p: &'a [u8], verdict: Verdict) -> &'a [u8]
-    ensures { λ r. ⌜ now r ≡ dataFor verdict (now (p .entry)) ⌝ }
+// Where the application data stands: from octet 10 up to the error control.
+fn data_span(p: &[u8]) -> Span
+    ensures { λ r. ⌜ r ≡ dataSpan (now (p .entry)) ⌝ }
 {
-    if !checks::accepted(verdict) {
-        return &p[..0];
+    Span {
+        from: HEAD,
+        to: control_at(p.len()),
     }
-    octets::copy::part(p, 10, control_at(p.len()))
 }
 
 // Where the error control of a packet of that many octets stands: its last two.
@@ -57,23 +70,23 @@ fn control_at(octets: usize) -> usize
 }
 
 // The verdict of the reader's checks.
-pub fn judge(p: &[u8]) -> Verdict
+fn judge(p: &[u8]) -> Verdict
     ensures { λ r. ⌜ r ≡ judged (now (p .entry)) ⌝ }
 {
-    if p.len() < 6 {
-        return Verdict::Short;
+    if p.len() < LEAST {
+        return checks::refuse(Check::Short, 0);
     }
     if !length_right(p) {
-        return Verdict::Length(capped(p.len()));
+        return checks::refuse(Check::Length, capped(p.len()));
     }
     let right = control(p);
     let received = octets::numbers::word16_at(p, control_at(p.len()));
     if received != right {
-        return Verdict::Control(right);
+        return checks::refuse(Check::Control, right);
     }
     let fault = header_fault(p);
     if fault != 0 {
-        return Verdict::Header(fault);
+        return checks::refuse(Check::Header, fault);
     }
     Verdict::Accepted
 }
@@ -82,17 +95,18 @@ pub fn judge(p: &[u8]) -> Verdict
 fn capped(n: usize) -> u16
     ensures { λ r. ⌜ r ≡ min n 65535 ⌝ }
 {
-    if n < 65535 { n as u16 } else { 65535 }
+    let most = DETAIL_MOST as usize;
+    if n < most { n as u16 } else { DETAIL_MOST }
 }
 
 // Whether the received count is one that check 1 passes.
 fn length_right(p: &[u8]) -> bool
     ensures { λ r. ⌜ r ≡ lengthRight (now (p .entry)) ⌝ }
 {
-    if p.len() < 12 {
+    if p.len() < AROUND {
         return false;
     }
-    if 248 < p.len() {
+    if PACKET_MOST < p.len() {
         return false;
     }
     let field = octets::numbers::word16_at(p, 4);
@@ -166,7 +180,7 @@ fn one(p: &[u8], at: usize) -> u8
 }
 
 // The fields at their places.
-pub fn fields(p: &[u8]) -> Fields
+fn fields(p: &[u8]) -> Fields
     ensures { λ r. ⌜ r ≡ fieldsOf (now (p .entry)) ⌝ }
 {
     let id = id_of(p);

@@ -1,19 +1,25 @@
 // The writer: a packet of category 12, checksum flag 1 and pad 0, laid at the front of a buffer.
+use crate::AROUND;
+use crate::CATEGORY;
+use crate::COUNT_MOST;
+use crate::DATA_MOST;
+use crate::HEAD;
 use crate::Order;
 use crate::Written;
 use octets::fields::Header;
 use octets::fields::PacketId;
 use octets::fields::Sequence;
+use octets::numbers::VALUES;
 ghost use mathlib.Core.Path.{_≡_};
 ghost use Prim.Native.Nat.{_+_, _≤_};
 ghost use lib.ListN.{length, take};
 ghost use Rattle.octets.specs.Copy.{laid};
-ghost use Rattle.tc.specs.Layout.{headOf, bodyOf, packetOf};
-ghost use Rattle.tc.specs.Writer.{writtenOf, bufferAfter, fieldsFor, isPacket};
+ghost use Rattle.tc.specs.Layout.{around, dataMost, headSize, headOf, bodyOf, packetOf};
+ghost use Rattle.tc.specs.Writer.{writtenOf, Writes, fieldsFor, isPacket};
 
 // Writes a packet at the front of a buffer; a refused write touches nothing.
 pub fn write(order: Order, application: &[u8], buffer: &mut [u8]) -> Written
-    ensures { λ r. ⌜ (r ≡ writtenOf order (length (now (application .entry))) (length (now (buffer .entry)))) × (now (buffer .exit) ≡ bufferAfter order (now (application .entry)) (now (buffer .entry))) ⌝ }
+    ensures { λ r. ⌜ Writes order (now (application .entry)) (now (buffer .entry)) r (now (buffer .exit)) ⌝ }
 {
     let answer = judge(order, application.len(), buffer.len());
     if wrote(answer) {
@@ -41,27 +47,27 @@ fn judge(order: Order, octets: usize, room: usize) -> Written
     if 127 < order.pid {
         return Written::BadField;
     }
-    if 16383 < order.count {
+    if COUNT_MOST < order.count {
         return Written::BadField;
     }
     if 15 < order.ack {
         return Written::BadField;
     }
-    if 236 < octets {
+    if DATA_MOST < octets {
         return Written::BadData;
     }
-    if room < octets + 12 {
+    if room < octets + AROUND {
         return Written::NoRoom;
     }
-    Written::Packet(octets + 12)
+    Written::Packet(octets + AROUND)
 }
 
 // The first ten octets of a packet with that much application data.
 fn head(order: Order, octets: u16) -> [u8; 10]
-    requires { ⌜ octets ≤ 236 ⌝ }
+    requires { ⌜ octets ≤ dataMost ⌝ }
     ensures { λ r. ⌜ r ≡ headOf (fieldsFor order) octets ⌝ }
 {
-    let apid = octets::fields::join_apid(order.pid as u16, 12);
+    let apid = octets::fields::join_apid(order.pid as u16, CATEGORY);
     let id = octets::fields::join_id(PacketId {
         version: 0,
         kind: 1,
@@ -72,20 +78,20 @@ fn head(order: Order, octets: u16) -> [u8; 10]
         flags: 3,
         count: order.count,
     });
-    let length = octets + 12 - 7;
+    let length = octets + (AROUND as u16) - 7;
     let first = octets::fields::join_header(Header {
         version: 0,
         checksum: 1,
         ack: order.ack as u16,
     });
     [
-        (id / 256) as u8,
-        (id % 256) as u8,
-        (control / 256) as u8,
-        (control % 256) as u8,
-        (length / 256) as u8,
-        (length % 256) as u8,
-        (first % 256) as u8,
+        (id / VALUES) as u8,
+        (id % VALUES) as u8,
+        (control / VALUES) as u8,
+        (control % VALUES) as u8,
+        (length / VALUES) as u8,
+        (length % VALUES) as u8,
+        (first % VALUES) as u8,
         order.kind,
         order.subtype,
         0,
@@ -94,7 +100,7 @@ fn head(order: Order, octets: u16) -> [u8; 10]
 
 // Lays the packet at the front of a buffer that has room for it.
 fn lay(order: Order, application: &[u8], buffer: &mut [u8])
-    requires { ⌜ (length (now application) ≤ 236) × (length (now application) + 12 ≤ length (now buffer)) ⌝ }
+    requires { ⌜ (length (now application) ≤ dataMost) × (length (now application) + around ≤ length (now buffer)) ⌝ }
     ensures { λ _. ⌜ now (buffer .exit) ≡ laid (now (buffer .entry)) 0 (packetOf (fieldsFor order) (now (application .entry))) ⌝ }
 {
     let end = lay_body(order, application, buffer);
@@ -104,10 +110,10 @@ fn lay(order: Order, application: &[u8], buffer: &mut [u8])
 
 // Lays what stands before the error control, and answers where that begins.
 fn lay_body(order: Order, application: &[u8], buffer: &mut [u8]) -> usize
-    requires { ⌜ length (now application) ≤ 236 ⌝ }
-    ensures { λ r. ⌜ (r ≡ length (now (application .entry)) + 10) × (now (buffer .exit) ≡ laid (now (buffer .entry)) 0 (bodyOf (fieldsFor order) (now (application .entry)))) ⌝ }
+    requires { ⌜ length (now application) ≤ dataMost ⌝ }
+    ensures { λ r. ⌜ (r ≡ length (now (application .entry)) + headSize) × (now (buffer .exit) ≡ laid (now (buffer .entry)) 0 (bodyOf (fieldsFor order) (now (application .entry)))) ⌝ }
 {
     let first = head(order, application.len() as u16);
     octets::copy::put(buffer, 0, &first);
-    octets::copy::put(buffer, 10, application) + 10
+    octets::copy::put(buffer, HEAD, application) + HEAD
 }

@@ -2,28 +2,24 @@
 -- Assumes nothing.
 use mathlib.Core.Path.{_≡_, refl, sym, ap, _∙_}
 use mathlib.Core.List.{List, [], _∷_, _++_, append-assoc}
-use Prim.Native.Nat.{ℕ, _+_, _*_, _≤_}
+use Prim.Native.Nat.{ℕ, _+_, _*_}
 use native.Mathlib.Omega.{arith}
 use lib.ListN.{length, length-append}
-use Rattle.octets.proofs.Between.{between-most}
 use Rattle.map.specs.declared.Area.{Area}
-use Rattle.map.specs.Place.{octetAt, octetsOf}
-use Rattle.blocks.specs.declared.Action.the-variants.{Check}
 use Rattle.blocks.specs.declared.Block.{Block}
-use Rattle.blocks.specs.Blocks.{memoryId, blockCount, blocksOf}
-use Rattle.blocks.proofs.Blocks.{blocksFrom-length}
+use Rattle.blocks.specs.Blocks.{firstPlace, memoryId, blockCount, blocksOf}
+use Rattle.blocks.proofs.Blocks.{blocks-length}
 use Rattle.tm.specs.declared.Stamp.{Stamp}
-use Rattle.tm.specs.Frame.{headOf, frameOf}
+use Rattle.tm.specs.declared.counts.Counts.{Counts}
+use Rattle.tm.specs.Counts.{countFor}
+use Rattle.tm.specs.Frame.{headOf, frameOf, stamped}
 use Rattle.tm.specs.Source.{checkHead}
 use Rattle.tm.proofs.Frame.{head-length}
-use Rattle.decide.specs.declared.State.{State}
-use Rattle.terminal.specs.Reports.{countFor, stamped, storedAt, entryOf, entriesOf, checked}
+use Rattle.decide.specs.declared.Action.the-variants.{Check}
+use Rattle.decide.specs.Request.{carriedBy}
+use Rattle.terminal.specs.declared.act.Sender.{Sender}
+use Rattle.terminal.specs.Reports.{entryOf, entriesOf, checked}
 use Rattle.terminal.specs.Act.{checkFirst}
-
-pub stored-most : (a : Area) (store : List ℕ) (start words : ℕ) → length (storedAt a store start words) ≤ words * 2
-unfolding storedAt octetsOf
-stored-most a store start words =
-    omega (arith, between-most (octetAt a start) (octetAt a start + octetsOf a words) store)
 
 pub entries-length : (a : Area) (store : List ℕ) (blocks : List Block) → length (entriesOf a store blocks) ≡ length blocks * 8
 unfolding entriesOf
@@ -33,19 +29,21 @@ entries-length a store (b ∷ rest) =
     length-append (entryOf a store b) (entriesOf a store rest) ∙ omega arith
 
 -- The check report's frame is its first eighteen octets and then its entries.
-pub check-frame : (pid : ℕ) (time : List ℕ) (s : State) (a : Area) (d store : List ℕ)
-    → stamped pid time s (checked a (memoryId d) store (blocksOf Check d) (blockCount d)) ≡ checkFirst pid time s d ++ entriesOf a store (blocksOf Check d)
+pub check-frame : (sender : Sender) (c : Counts) (a : Area) (d store : List ℕ)
+    → stamped (sender .pid) (sender .time) c (checked a (memoryId d) store (blocksOf (carriedBy Check) d) (blockCount d))
+    ≡ checkFirst sender c d ++ entriesOf a store (blocksOf (carriedBy Check) d)
 unfolding stamped frameOf checkFirst
-check-frame pid time s a d store =
-    let entries : List ℕ = entriesOf a store (blocksOf Check d) in
+check-frame sender c a d store =
+    let entries : List ℕ = entriesOf a store (blocksOf (carriedBy Check) d) in
     let pair : List ℕ = checkHead (memoryId d) (blockCount d) in
-    let stamp : Stamp = record { pid = pid; count = countFor s 6; time = time; kind = 6; subtype = 10 } in
+    let stamp : Stamp = record { pid = sender .pid; count = countFor c 6; time = sender .time; kind = 6; subtype = 10 } in
     let size : length (pair ++ entries) ≡ blockCount d * 8 + 2 =
-    omega (arith, length-append pair entries, entries-length a store (blocksOf Check d), blocksFrom-length Check d (blockCount d) 2) in
+    omega (arith, length-append pair entries, entries-length a store (blocksOf (carriedBy Check) d), blocks-length (carriedBy Check) d (blockCount d) firstPlace) in
     ap (λ (n : ℕ). headOf stamp n ++ (pair ++ entries)) size ∙ sym (append-assoc (headOf stamp (blockCount d * 8 + 2)) pair entries)
 
-pub check-first-length : (pid : ℕ) (time : List ℕ) (s : State) (d : List ℕ) → length time ≡ 6 → length (checkFirst pid time s d) ≡ 18
+pub check-first-length : (sender : Sender) (c : Counts) (d : List ℕ) → length (sender .time) ≡ 6 → length (checkFirst sender c d) ≡ 18
 unfolding checkFirst
-check-first-length pid time s d six =
-    length-append (headOf (record { pid = pid; count = countFor s 6; time = time; kind = 6; subtype = 10 }) (blockCount d * 8 + 2)) (checkHead (memoryId d) (blockCount d))
-    ∙ ap (λ (n : ℕ). n + 2) (head-length (record { pid = pid; count = countFor s 6; time = time; kind = 6; subtype = 10 }) (blockCount d * 8 + 2) six)
+check-first-length sender c d six =
+    let stamp : Stamp = record { pid = sender .pid; count = countFor c 6; time = sender .time; kind = 6; subtype = 10 } in
+    length-append (headOf stamp (blockCount d * 8 + 2)) (checkHead (memoryId d) (blockCount d))
+    ∙ ap (λ (n : ℕ). n + 2) (head-length stamp (blockCount d * 8 + 2) six)

@@ -1,5 +1,5 @@
 pub mod Reports
+pub mod Done
 pub mod Outcome
 pub mod Run
 pub mod Act
-pub mod Examples

@@ -1,14 +1,19 @@
--- A run: packets answered one after another, each from the counts and the store that the one before left.
-use mathlib.Core.List.{List, [], _∷_}
+-- A run: packets answered one after another, each from the state and the store that the one before left.
+use mathlib.Core.List.{List}
 use Prim.Native.Nat.{ℕ}
 use lib.ListN.{length}
-use Rattle.checks.specs.declared.Verdict.{Verdict}
+use Rattle.laws.specs.Fold.{answers, reached}
 use Rattle.checks.specs.Table.{place}
 use Rattle.map.specs.declared.Profile.{Profile}
 use Rattle.decide.specs.declared.State.{State}
 use Rattle.decide.specs.Table.{rows}
 use Rattle.terminal.specs.declared.Outcome.{Outcome}
-use Rattle.terminal.specs.Outcome.{Input, outcomeOf, storeOn, outAfter}
+use Rattle.terminal.specs.Outcome.{Input, input, outcomeOf, storeOn, outAfter}
+
+-- What goes from packet to packet.
+pub record Machine : Type 0 where
+  pub state : State
+  pub store : List ℕ
 
 -- What comes in: a packet, its time, and an output buffer.
 pub record Step : Type 0 where
@@ -22,21 +27,26 @@ pub record Answer : Type 0 where
   pub out : List ℕ
   pub store : List ℕ
 
--- A step as an input, under a profile and from counts and a store.
-abbrev pub inputFor : Profile → State → List ℕ → Step → Input
-inputFor p state store s = record { profile = p; state = state; time = s .time; packet = s .packet; store = store; out = s .out }
+-- A step as an input, under a profile and from a machine.
+abbrev pub inputFor : Profile → Machine → Step → Input
+inputFor p m s = input p (m .state) (s .time) (s .packet) (m .store) (s .out)
 
 -- One packet's answer.
-abbrev pub answerTo : Input → Answer
-answerTo i = record { outcome = outcomeOf i; out = outAfter i; store = storeOn i }
+abbrev pub answerTo : Profile → Machine → Step → Answer
+answerTo p m s = record { outcome = outcomeOf (inputFor p m s); out = outAfter (inputFor p m s); store = storeOn (inputFor p m s) }
+
+-- What the machine becomes.
+abbrev pub after : Profile → Machine → Step → Machine
+after p m s = record { state = outcomeOf (inputFor p m s) .state; store = storeOn (inputFor p m s) }
 
 -- The answers to some packets in turn.
-unfoldable pub run : Profile → State → List ℕ → List Step → List Answer
-run p state store [] = []
-run p state store (s ∷ rest) =
-    answerTo (inputFor p state store s)
-    ∷ run p (outcomeOf (inputFor p state store s) .state) (storeOn (inputFor p state store s)) rest
+abbrev pub run : Profile → Machine → List Step → List Answer
+run p m steps = answers (answerTo p) (after p) m steps
 
--- The place of the first check that fails, from 0 in the table's order; 13 where none does.
+-- The machine after them.
+abbrev pub ranTo : Profile → Machine → List Step → Machine
+ranTo p m steps = reached (after p) m steps
+
+-- The place of the first check that fails, from 0 in the table's order; how many rows there are where none does.
 abbrev pub placeOn : Input → ℕ
 placeOn i = place (rows (i .profile) (i .state) (length (i .store)) (length (i .out)) (i .packet))

@@ -1,12 +1,20 @@
 // The terminal of document 01: one telecommand packet in; verdict, frames, counts and store out.
+use act::Progress;
+use act::Sender;
 use checks::Verdict;
 use decide::State;
 use map::Profile;
 ghost use mathlib.Core.Path.{_≡_};
-ghost use Rattle.decide.specs.Table.{silent};
-ghost use Rattle.terminal.specs.Outcome.{Answered};
+ghost use Rattle.terminal.specs.Outcome.{input, Answered};
 
-pub mod act;
+mod act; // act.rt: what an accepted packet does, and its reports
+
+// What a packet is answered: the verdict, the octets written at the front of the output buffer, and the state afterwards.
+pub struct Outcome {
+    pub verdict: Verdict,
+    pub written: usize,
+    pub state: State,
+}
 
 // Answers one packet, whatever it is: decides first, and acts after. The frames due fill the front of the output buffer.
 pub fn answer(
@@ -17,61 +25,40 @@ pub fn answer(
     store: &mut [u8],
     out: &mut [u8],
 ) -> Outcome
-    ensures { λ r. ⌜ Answered (record { profile = profile; state = state; time = time; packet = now (packet .entry); store = now (store .entry); out = now (out .entry) }) r (now (store .exit)) (now (out .exit)) ⌝ }
+    ensures { λ r. ⌜ Answered (input profile state time (now (packet .entry)) (now (store .entry)) (now (out .entry))) r (now (store .exit)) (now (out .exit)) ⌝ }
 {
-    let verdict = decide::decide(profile, state, store.len(), out.len(), packet);
-    if checks::accepted(verdict) {
-        let p = act::accept(profile, state, time, packet, store, out);
-        return outcome_of(verdict, p);
-    }
-    if is_silent(verdict) {
+    let decision = decide::decide(profile, state, store.len(), out.len(), packet);
+    let verdict = decision.verdict;
+    if checks::is_silent(verdict) {
         return Outcome {
             verdict,
             written: 0,
             state,
         };
     }
-    let p = act::refuse(profile, state, time, verdict, packet, out);
-    outcome_of(verdict, p)
+    let sender = Sender {
+        pid: profile.pid,
+        time,
+    };
+    let counts = state.counts;
+    let start = Progress { at: 0, counts };
+    if checks::accepted(verdict) {
+        let work = decision.work;
+        let end = act::carry_out(sender, work, start, packet, store, out);
+        return outcome_of(verdict, end);
+    }
+    let end = act::report_refusal(verdict, sender, start, packet, out);
+    outcome_of(verdict, end)
 }
 
 // The outcome of a verdict whose reports were laid from the front of the output buffer on.
-fn outcome_of(verdict: Verdict, p: act::Progress) -> Outcome
-    ensures { λ r. ⌜ r ≡ record { verdict = verdict; written = p .at; state = p .state } ⌝ }
+fn outcome_of(verdict: Verdict, p: Progress) -> Outcome
+    ensures { λ r. ⌜ r ≡ record { verdict = verdict; written = p .at; state = record { counts = p .counts } } ⌝ }
 {
-    let state = p.state;
+    let counts = p.counts;
     Outcome {
         verdict,
         written: p.at as usize,
-        state,
+        state: State { counts },
     }
-}
-
-// Whether a verdict gives no frame: 40, 41 and 42.
-fn is_silent(v: Verdict) -> bool
-    ensures { λ r. ⌜ r ≡ silent v ⌝ }
-{
-    match v {
-        Verdict::Accepted => false,
-        Verdict::Buffer => true,
-        Verdict::Caller => true,
-        Verdict::Short => true,
-        Verdict::Length(_) => false,
-        Verdict::Control(_) => false,
-        Verdict::Header(_) => false,
-        Verdict::Apid(_) => false,
-        Verdict::Service(_) => false,
-        Verdict::Subtype(_) => false,
-        Verdict::Form(_) => false,
-        Verdict::Memory(_) => false,
-        Verdict::Right(_) => false,
-        Verdict::Outside(_) => false,
-    }
-}
-
-// What a packet is answered: the verdict, the octets written at the front of the output buffer, and the counts afterwards.
-pub struct Outcome {
-    pub verdict: checks::Verdict,
-    pub written: usize,
-    pub state: State,
 }

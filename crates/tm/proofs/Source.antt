@@ -1,27 +1,17 @@
--- Laws of source data: how long each is, and the first four octets of a TC that has them.
+-- Laws of octets that are read one by one: an array is the list that it was, and the first four octets of a TC are those that a report repeats.
 -- Assumes nothing.
-use mathlib.Core.Path.{_≡_, refl}
+use mathlib.Core.Path.{_≡_, sym, _∙_}
 use mathlib.Core.List.{List}
 use Prim.Native.Nat.{ℕ, _≤_}
 use native.Mathlib.Omega.{arith}
 use lib.ListN.{length}
-use Rattle.tm.specs.Source.{echoOf, echoed, failure, dumpHead, checkHead, checkEntry}
-use Rattle.tm.proofs.Elements.{elements-taken}
+use lib.Seq.{take-all}
+use Rattle.octets.proofs.Words.{run, run-take}
+use Rattle.tm.specs.Source.{echoOf, echoed}
 
-pub failure-length : (code detail : ℕ) → length (failure code detail) ≡ 4
-failure-length code detail = refl
-
-pub dump-head-length : (memory start words : ℕ) → length (dumpHead memory start words) ≡ 8
-dump-head-length memory start words = refl
-
-pub check-head-length : (memory blocks : ℕ) → length (checkHead memory blocks) ≡ 2
-check-head-length memory blocks = refl
-
-pub check-entry-length : (start words crc : ℕ) → length (checkEntry start words crc) ≡ 8
-check-entry-length start words crc = refl
-
-pub echoed-length : (packet : List ℕ) → length (echoed packet) ≡ 4
-echoed-length packet = refl
+pub run-all : (s : List ℕ) (n : ℕ) → length s ≡ n → run s 0 n ≡ s
+run-all s n h = sym (run-take s 0 n (omega arith)) ∙ take-all n s (omega arith)
 
 pub echoed-eq : (packet : List ℕ) → 4 ≤ length packet → echoed packet ≡ echoOf packet
-echoed-eq packet h = elements-taken packet 0 4 (omega arith)
+unfolding run
+echoed-eq packet h = sym (run-take packet 0 4 (omega arith))

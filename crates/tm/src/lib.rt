@@ -3,10 +3,21 @@ use octets::fields::PacketId;
 use octets::fields::Sequence;
 ghost use mathlib.Core.List.{_++_};
 ghost use mathlib.Core.Path.{_≡_};
-ghost use lib.ListN.{length};
-ghost use Rattle.octets.specs.Copy.{laid};
-ghost use Rattle.tm.specs.Frame.{categoryOf, headOf, frameOf};
+ghost use Prim.Native.Nat.{_+_, min};
+ghost use lib.ListN.{length, drop};
+ghost use Rattle.tm.specs.Frame.{headOf, frameOf, frameSize, LaysFrame};
 ghost use Rattle.tm.specs.Source.{echoed, failure, dumpHead, checkEntry};
+
+pub mod counts; // counts.rt: the counts of the reports, one for each category
+
+// The octets before a frame's source data.
+const HEAD: usize = 16;
+
+// What the length field leaves out of a frame's octets.
+const UNCOUNTED: usize = 7;
+
+// How many values a field of 16 bits has.
+const FIELD: usize = 65536;
 
 // What a frame carries before its source data: whose it is, the count of its category, the time, and what it reports.
 pub struct Stamp {
@@ -21,7 +32,7 @@ pub struct Stamp {
 pub fn head(stamp: Stamp, octets: usize) -> [u8; 16]
     ensures { λ r. ⌜ r ≡ headOf stamp octets ⌝ }
 {
-    let apid = octets::fields::join_apid(stamp.pid as u16, category(stamp.kind));
+    let apid = octets::fields::join_apid(stamp.pid as u16, counts::category(stamp.kind));
     let id = octets::numbers::octets_of16(octets::fields::join_id(PacketId {
         version: 0,
         kind: 0,
@@ -33,7 +44,7 @@ pub fn head(stamp: Stamp, octets: usize) -> [u8; 16]
         count: stamp.count,
     }));
     // Reduced first: to the largest count nothing can be added.
-    let length = octets::numbers::octets_of16(((octets % 65536 + 16 - 7) % 65536) as u16);
+    let length = octets::numbers::octets_of16(((octets % FIELD + HEAD - UNCOUNTED) % FIELD) as u16);
     let time = stamp.time;
     [
         id[0],
@@ -55,22 +66,15 @@ pub fn head(stamp: Stamp, octets: usize) -> [u8; 16]
     ]
 }
 
-// The category of a service's reports.
-fn category(kind: u8) -> u16
-    ensures { λ r. ⌜ r ≡ categoryOf kind ⌝ }
-{
-    if kind == 1 { 1 } else { 9 }
-}
-
 // Lays a frame into a buffer from a place on and answers how many octets it has; those that would stand past the buffer's end are dropped.
 pub fn put_frame(out: &mut [u8], at: u16, stamp: Stamp, source: &[u8]) -> usize
-    ensures { λ r. ⌜ (r ≡ length (frameOf stamp (now (source .entry)))) × (now (out .exit) ≡ laid (now (out .entry)) at (frameOf stamp (now (source .entry)))) ⌝ }
+    ensures { λ r. ⌜ LaysFrame (frameOf stamp (now (source .entry))) at (now (out .entry)) r (now (out .exit)) ⌝ }
 {
     let first = head(stamp, source.len());
     let place = at as usize;
-    let next = place + 16;
+    let next = place + HEAD;
     octets::copy::put(out, place, &first);
-    octets::copy::put(out, next, source) + 16
+    octets::copy::put(out, next, source) + HEAD
 }
 
 // Lays a dump report, (6,6), of a block's stored octets.
@@ -83,14 +87,14 @@ pub fn put_dump(
     words: u16,
     stored: &[u8],
 ) -> usize
-    ensures { λ r. ⌜ (r ≡ length (frameOf stamp (dumpHead memory start words ++ now (stored .entry)))) × (now (out .exit) ≡ laid (now (out .entry)) at (frameOf stamp (dumpHead memory start words ++ now (stored .entry)))) ⌝ }
+    ensures { λ r. ⌜ LaysFrame (frameOf stamp (dumpHead memory start words ++ now (stored .entry))) at (now (out .entry)) r (now (out .exit)) ⌝ }
 {
     let first = head(stamp, stored.len() + 8);
     let block = dump_head(memory, start, words);
     let place = at as usize;
     octets::copy::put(out, place, &first);
-    octets::copy::put(out, place + 16, &block);
-    octets::copy::put(out, place + 24, stored) + 24
+    octets::copy::put(out, place + HEAD, &block);
+    octets::copy::put(out, place + HEAD + 8, stored) + HEAD + 8
 }
 
 // What stands before the words of a dump report.
@@ -104,7 +108,7 @@ fn dump_head(memory: u8, start: u32, words: u16) -> [u8; 8]
 
 // Lays a report that repeats a TC's first four octets and no more: (1,1) and (1,7).
 pub fn put_echo(out: &mut [u8], at: u16, stamp: Stamp, echo: [u8; 4]) -> usize
-    ensures { λ r. ⌜ (r ≡ length (frameOf stamp echo)) × (now (out .exit) ≡ laid (now (out .entry)) at (frameOf stamp echo)) ⌝ }
+    ensures { λ r. ⌜ LaysFrame (frameOf stamp echo) at (now (out .entry)) r (now (out .exit)) ⌝ }
 {
     put_frame(out, at, stamp, &echo)
 }
@@ -118,7 +122,7 @@ pub fn put_failure(
     code: u16,
     detail: u16,
 ) -> usize
-    ensures { λ r. ⌜ (r ≡ length (frameOf stamp (echo ++ failure code detail))) × (now (out .exit) ≡ laid (now (out .entry)) at (frameOf stamp (echo ++ failure code detail))) ⌝ }
+    ensures { λ r. ⌜ LaysFrame (frameOf stamp (echo ++ failure code detail)) at (now (out .entry)) r (now (out .exit)) ⌝ }
 {
     let source = refusal(echo, code, detail);
     put_frame(out, at, stamp, &source)
@@ -153,4 +157,16 @@ pub fn echo_of(packet: &[u8]) -> [u8; 4]
         octets::numbers::octet_at(packet, 2) as u8,
         octets::numbers::octet_at(packet, 3) as u8,
     ]
+}
+
+// Where the frame ends that begins at a place of some frames: as its length field says, and at the end of them where that lies past it.
+pub fn frame_end(frames: &[u8], from: usize) -> usize
+    ensures { λ r. ⌜ r ≡ min (from + frameSize (drop from (now (frames .entry)))) (length (now (frames .entry))) ⌝ }
+{
+    let all = frames.len();
+    if all <= from {
+        return all;
+    }
+    let size = (octets::numbers::word16_at(frames, from + 4) as usize) + UNCOUNTED;
+    if size <= all - from { from + size } else { all }
 }

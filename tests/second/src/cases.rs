@@ -24,6 +24,8 @@ const ROOM_FILL: u8 = 0xEE;
 pub enum Command {
     /// P
     SetProfile(Profile),
+    /// V
+    AskWider(Profile),
     /// S
     SetStore(Vec<u8>),
     /// K
@@ -89,6 +91,7 @@ pub fn parse(line: &[u8]) -> Option<Command> {
 fn with_octets(letter: u8, octets: Vec<u8>) -> Option<Command> {
     match letter {
         b'P' => profile(&octets).map(Command::SetProfile),
+        b'V' => profile(&octets).map(Command::AskWider),
         b'S' if octets.len() <= MOST_STORE_OCTETS => Some(Command::SetStore(octets)),
         b'K' => match octets[..] {
             [a, b, c, d] => Some(Command::SetCounts(Counts {
@@ -184,6 +187,10 @@ impl State {
     pub fn obey(&mut self, command: Command, text: &mut Vec<u8>) {
         match command {
             Command::SetProfile(profile) => self.profile = profile,
+            Command::AskWider(profile) => {
+                let wider = profile.wider(&self.profile, self.store.len());
+                print(&[&[u8::from(wider)]], text);
+            }
             Command::SetStore(store) => self.store = store,
             Command::SetCounts(counts) => self.counts = counts,
             Command::SetTime(time) => self.time = time,

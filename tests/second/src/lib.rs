@@ -5,6 +5,7 @@
 
 pub mod blocks;
 pub mod cases;
+pub mod clauses;
 pub mod crc;
 pub mod hex;
 pub mod hexline;
@@ -15,6 +16,7 @@ pub mod random;
 pub mod refusal;
 pub mod sample;
 pub mod sample_map;
+pub mod sample_wider;
 pub mod tc;
 pub mod terminal;
 pub mod tm;

@@ -1,6 +1,7 @@
 //! Profile and memory map: when a profile is sound over a store, when one is wider than another,
 //! which area has a memory ID, and whether a block lies inside an area.
 
+use std::fmt::{self, Display, Formatter};
 use std::ops::Range;
 
 use crate::tc::LARGEST_PID;
@@ -54,6 +55,20 @@ pub enum Unsound {
     EndAbove32Bits,
     OutsideStore,
     SharedWord,
+}
+
+impl Display for Unsound {
+    fn fmt(&self, text: &mut Formatter) -> fmt::Result {
+        text.write_str(match self {
+            Unsound::Pid => "PID",
+            Unsound::AreaCount => "area count",
+            Unsound::SameMemoryId => "same memory ID",
+            Unsound::NoLength => "no length",
+            Unsound::EndAbove32Bits => "end above 32 bits",
+            Unsound::OutsideStore => "outside the store",
+            Unsound::SharedWord => "shared word",
+        })
+    }
 }
 
 /// A store is even in length and at most 65,536 octets; it may be empty.

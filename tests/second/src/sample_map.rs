@@ -130,6 +130,9 @@ fn flags(random: &mut Random) -> Flags {
     if !random.once_in(3) {
         return Flags::ALL;
     }
+    if random.once_in(12) {
+        return Flags { connection: random.once_in(2), ..Flags::default() };
+    }
     Flags {
         load: !random.once_in(3),
         dump: !random.once_in(3),
@@ -138,7 +141,7 @@ fn flags(random: &mut Random) -> Flags {
     }
 }
 
-fn rights(random: &mut Random) -> Rights {
+pub fn rights(random: &mut Random) -> Rights {
     if random.once_in(2) {
         return Rights::ALL;
     }
@@ -146,7 +149,7 @@ fn rights(random: &mut Random) -> Rights {
 }
 
 /// A start that keeps the end at or below 2^32, now and then at exactly 2^32.
-fn start(random: &mut Random, length: u32) -> u32 {
+pub fn start(random: &mut Random, length: u32) -> u32 {
     let highest = (u32::MAX - length).wrapping_add(1);
     match random.below(5) {
         0 => 0,

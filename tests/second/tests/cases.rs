@@ -3,9 +3,15 @@
 
 mod common;
 
+use std::fs;
+use std::path::Path;
+use std::process::Command;
+
 use second::cases;
 
 const GOOD: &str = "X 185CC0000005191101000167\n";
+/// The profile that stands at the start.
+const AT_THE_START: &str = "05 0F 01  01 00001000 00000040 00000000 07";
 
 fn run(input: impl AsRef<[u8]>) -> String {
     common::written("CASES_COMMAND", cases::run, input.as_ref())
@@ -13,6 +19,15 @@ fn run(input: impl AsRef<[u8]>) -> String {
 
 fn x(packet: &[u8]) -> String {
     format!("X {}\n", packet.iter().map(|octet| format!("{octet:02X}")).collect::<String>())
+}
+
+/// A P or V line of a profile whose text has spaces in it.
+fn line(letter: char, profile: &str) -> String {
+    format!("{letter} {}\n", profile.replace(' ', ""))
+}
+
+fn command() -> Command {
+    common::command("CASES_COMMAND").unwrap_or_else(|| Command::new(env!("CARGO_BIN_EXE_cases")))
 }
 
 #[test]
@@ -63,6 +78,281 @@ fn p_takes_any_count_and_gives_zero_places() {
     // A place past the count is ignored.
     let ignored = format!("P 050F000100001000000000000000000007\n{GOOD}");
     assert!(run(ignored).ends_with("\n0000 0000 0038 0002 0001\n"));
+}
+
+/// After the lines before, asks about each profile in turn: no answer depends on what was asked earlier.
+fn asked(before: &str, rows: &[(&str, &str)]) {
+    let questions: String = rows.iter().map(|(profile, _)| line('V', profile)).collect();
+    let printed = run(before.to_owned() + &questions);
+    for (answer, (profile, expected)) in printed.lines().zip(rows) {
+        assert_eq!(answer, *expected, "{before}{profile}");
+    }
+    assert_eq!(printed.lines().count(), rows.len(), "{before}");
+}
+
+#[test]
+fn the_example_of_v() {
+    let input = "P 0501010100001010000000100000001401
+V 050F010100001000000000200000000407
+V 050F010100001000000000200000000507
+V 0501010100001010000000100000001401
+";
+    assert_eq!(run(input), "01\n00\n01\n");
+}
+
+#[test]
+fn v_beside_the_profile_at_the_start() {
+    asked(
+        "",
+        &[
+            (AT_THE_START, "01"),
+            // PID, each flag, each right, memory ID.
+            ("06 0F 01  01 00001000 00000040 00000000 07", "00"),
+            ("04 0F 01  01 00001000 00000040 00000000 07", "00"),
+            ("05 0E 01  01 00001000 00000040 00000000 07", "00"),
+            ("05 0D 01  01 00001000 00000040 00000000 07", "00"),
+            ("05 0B 01  01 00001000 00000040 00000000 07", "00"),
+            ("05 07 01  01 00001000 00000040 00000000 07", "00"),
+            ("05 00 01  01 00001000 00000040 00000000 07", "00"),
+            ("05 0F 01  01 00001000 00000040 00000000 06", "00"),
+            ("05 0F 01  01 00001000 00000040 00000000 05", "00"),
+            ("05 0F 01  01 00001000 00000040 00000000 03", "00"),
+            ("05 0F 01  01 00001000 00000040 00000000 00", "00"),
+            ("05 0F 01  02 00001000 00000040 00000000 07", "00"),
+            ("05 0F 01  00 00001000 00000040 00000000 07", "00"),
+            // Starts later, ends earlier, other store words.
+            ("05 0F 01  01 00001001 0000003F 00000001 07", "00"),
+            ("05 0F 01  01 00001000 0000003F 00000000 07", "00"),
+            ("05 0F 01  01 00000FFF 00000040 00000000 07", "00"),
+            ("05 0F 01  01 00001001 00000040 00000000 07", "00"),
+            // Not sound: past the store, no length, count, PID.
+            ("05 0F 01  01 00001000 00000041 00000000 07", "00"),
+            ("05 0F 01  01 00000FFF 00000041 00000000 07", "00"),
+            ("05 0F 01  01 00001000 00000040 00000001 07", "00"),
+            ("05 0F 01  01 00001000 00000000 00000000 07", "00"),
+            ("05 0F 09  01 00001000 00000040 00000000 07", "00"),
+            ("05 0F FF  01 00001000 00000040 00000000 07", "00"),
+            ("85 0F 01  01 00001000 00000040 00000000 07", "00"),
+            // The count: the area is not used; a place that is not given is used, and has no length.
+            ("05 0F 00  01 00001000 00000040 00000000 07", "00"),
+            ("05 0F 00", "00"),
+            ("05 0F 01", "00"),
+            ("05 0F 02  01 00001000 00000040 00000000 07", "00"),
+            // A second area shares a word; past the count it is ignored.
+            ("05 0F 02  01 00001000 00000040 00000000 07  02 00000000 00000001 0000003F 07", "00"),
+            ("05 0F 01  01 00001000 00000040 00000000 07  02 00000000 00000001 0000003F 07", "01"),
+            ("05 0F 01  01 00001000 00000040 00000000 07  01 FFFFFFFF FFFFFFFF FFFFFFFF 00", "01"),
+            ("05 0F 01  02 00000000 00000001 0000003F 07  01 00001000 00000040 00000000 07", "00"),
+            ("05 0F 02  02 00000000 00000001 0000003F 07  01 00001000 00000040 00000000 07", "00"),
+        ],
+    );
+    assert_eq!(run("V 050f010100001000000000400000000007"), "01\n");
+}
+
+#[test]
+fn v_flags_and_rights_that_are_not_needed() {
+    let before = line('P', "05 05 01  01 00001000 00000040 00000000 02");
+    asked(
+        &before,
+        &[
+            ("05 05 01  01 00001000 00000040 00000000 02", "01"),
+            ("05 07 01  01 00001000 00000040 00000000 03", "01"),
+            ("05 0F 01  01 00001000 00000040 00000000 07", "01"),
+            ("05 0D 01  01 00001000 00000040 00000000 06", "01"),
+            ("05 0E 01  01 00001000 00000040 00000000 07", "00"),
+            ("05 0B 01  01 00001000 00000040 00000000 07", "00"),
+            ("05 0F 01  01 00001000 00000040 00000000 05", "00"),
+        ],
+    );
+}
+
+#[test]
+fn v_addresses_and_store_words() {
+    let before = line('P', "05 0F 01  01 00001010 00000010 00000014 07");
+    asked(
+        &before,
+        &[
+            ("05 0F 01  01 00001010 00000010 00000014 07", "01"),
+            ("05 0F 01  01 0000100F 00000011 00000013 07", "01"),
+            ("05 0F 01  01 00001010 00000011 00000014 07", "01"),
+            ("05 0F 01  01 00001000 00000020 00000004 07", "01"),
+            ("05 0F 01  01 00000FFC 00000040 00000000 07", "01"),
+            // Starts one later, ends one earlier.
+            ("05 0F 01  01 00001011 0000000F 00000015 07", "00"),
+            ("05 0F 01  01 00001011 00000010 00000015 07", "00"),
+            ("05 0F 01  01 00001010 0000000F 00000014 07", "00"),
+            ("05 0F 01  01 0000100F 00000010 00000013 07", "00"),
+            // Store words: one off, not shifted with the start.
+            ("05 0F 01  01 00001010 00000010 00000013 07", "00"),
+            ("05 0F 01  01 00001010 00000010 00000015 07", "00"),
+            ("05 0F 01  01 00001000 00000020 00000005 07", "00"),
+            ("05 0F 01  01 00001000 00000020 00000003 07", "00"),
+            ("05 0F 01  01 00001000 00000020 00000014 07", "00"),
+            // Split under two IDs, either part under the right one.
+            ("05 0F 02  01 00001010 00000008 00000014 07  02 00001018 00000008 0000001C 07", "00"),
+            ("05 0F 02  02 00001010 00000008 00000014 07  01 00001018 00000008 0000001C 07", "00"),
+            // Another area before it; one with the same ID, which is not sound.
+            ("05 0F 02  07 00001010 00000010 00000024 00  01 00001010 00000010 00000014 07", "01"),
+            ("05 0F 02  01 00001010 00000010 00000024 00  01 00001010 00000010 00000014 07", "00"),
+            ("05 0F 02  01 00001010 00000010 00000014 07  01 00001010 00000010 00000024 00", "00"),
+            // A first word, or a sum of two, of 32 bits.
+            ("05 0F 02  01 00001010 00000010 00000014 07  02 00000000 00000001 FFFFFFFF 07", "00"),
+            ("05 0F 02  01 00001010 00000010 00000014 07  02 00000000 00000001 7FFFFFFF 07", "00"),
+            ("05 0F 02  01 00001010 00000010 00000014 07  02 00000000 00000001 80000000 07", "00"),
+            ("05 0F 02  01 00001010 00000010 00000014 07  02 00000000 FFFFFFDC 00000024 07", "00"),
+            ("05 0F 02  01 00001010 00000010 00000014 07  02 FFFFFFFF 00000002 00000024 07", "00"),
+            ("05 0F 02  01 00001010 00000010 00000014 07  02 FFFFFFFE 00000002 00000024 07", "01"),
+        ],
+    );
+}
+
+#[test]
+fn v_at_the_end_of_the_addresses() {
+    let before = line('P', "05 0F 01  01 FFFFFFF0 00000010 00000010 07");
+    asked(
+        &before,
+        &[
+            ("05 0F 01  01 FFFFFFF0 00000010 00000010 07", "01"),
+            ("05 0F 01  01 FFFFFFE0 00000020 00000000 07", "01"),
+            ("05 0F 01  01 FFFFFFE0 0000001F 00000000 07", "00"),
+            ("05 0F 01  01 FFFFFFF0 0000000F 00000010 07", "00"),
+            ("05 0F 01  01 FFFFFFF0 00000011 00000010 07", "00"),
+            ("05 0F 01  01 00000000 00000010 00000020 07", "00"),
+        ],
+    );
+    // The wider ends there, the narrower before.
+    let before = line('P', "05 0F 01  01 FFFFFFE8 00000008 00000008 07");
+    asked(&before, &[("05 0F 01  01 FFFFFFE0 00000020 00000000 07", "01")]);
+}
+
+#[test]
+fn v_beside_a_profile_that_is_not_sound() {
+    // Two areas of one ID within one; no length; counts above 8; what both have to fail.
+    for (standing, asked_about) in [
+        (
+            "05 0F 02  01 00001000 00000020 00000000 07  01 00001020 00000020 00000020 07",
+            "05 0F 01  01 00001000 00000040 00000000 07",
+        ),
+        ("05 0F 01  01 00001008 00000000 00000008 07", "05 0F 01  01 00001000 00000040 00000000 07"),
+        ("05 0F 09  01 00001000 00000040 00000000 07", "05 0F 01  01 00001000 00000040 00000000 07"),
+        ("05 0F FF", "05 0F 00"),
+        ("80 0F 00", "80 0F 00"),
+        ("FF 0F 00", "7F 0F 00"),
+        ("05 0F 01  01 FFFFFFF1 00000010 00000000 07", "05 0F 01  01 FFFFFFF1 00000010 00000000 07"),
+        ("05 0F 01  01 00001000 00000041 00000000 07", "05 0F 01  01 00001000 00000041 00000000 07"),
+        (
+            "05 0F 02  01 00001000 00000020 00000000 07  02 00001000 00000020 0000001F 07",
+            "05 0F 02  01 00001000 00000020 00000000 07  02 00001000 00000020 0000001F 07",
+        ),
+    ] {
+        asked(&line('P', standing), &[(asked_about, "00"), (standing, "00")]);
+    }
+    // Eight areas, and a count of eight, of nine.
+    let areas: String =
+        (0..8).map(|number| format!("{:02X} 00001000 00000008 {:08X} 07 ", number + 1, number * 8)).collect();
+    let (eight, nine) = (format!("05 0F 08 {areas}"), format!("05 0F 09 {areas}"));
+    asked(&line('P', &eight), &[(&eight, "01"), (&nine, "00"), (AT_THE_START, "00")]);
+    asked(&line('P', &nine), &[(&eight, "00"), (&nine, "00")]);
+    // The eighth is looked at.
+    let other = eight.replacen("00000038 07", "00000038 05", 1);
+    assert_ne!(eight, other);
+    asked(&line('P', &eight), &[(&other, "00")]);
+    asked(&line('P', &other), &[(&eight, "01")]);
+}
+
+#[test]
+fn v_without_areas_and_past_the_count() {
+    asked(&line('P', "05 0F 00"), &[("05 0F 00", "01"), (AT_THE_START, "01"), ("05 0E 00", "00"), ("06 0F 00", "00")]);
+    // What stands past the count of the narrower is not asked for.
+    let before = line('P', "05 0F 01  01 00001000 00000010 00000000 07  02 00002000 00000010 00000010 07");
+    asked(
+        &before,
+        &[
+            ("05 0F 01  01 00001000 00000010 00000000 07", "01"),
+            ("05 0F 00  01 00001000 00000010 00000000 07", "00"),
+            (AT_THE_START, "01"),
+        ],
+    );
+}
+
+#[test]
+fn v_is_over_the_store_that_stands() {
+    let words = |count: u32| format!("05 0F 01  01 00001000 {count:08X} 00000000 07");
+    let store = |octets: usize| format!("S {}\n", "00".repeat(octets));
+    // An odd store and one that is too long are refused by the terminal, and no part of the question.
+    for (length, octets, answer) in [
+        (64, 128, "01"),
+        (64, 127, "00"),
+        (63, 127, "01"),
+        (64, 129, "01"),
+        (65, 129, "00"),
+        (32_768, 65_536, "01"),
+        (32_769, 65_537, "00"),
+        (32_769, 65_538, "01"),
+        (32_800, 65_600, "01"),
+        (1, 1, "00"),
+        (1, 0, "00"),
+    ] {
+        let before = line('P', &words(length)) + &store(octets);
+        assert_eq!(run(before + &line('V', &words(length))), format!("{answer}\n"), "{length} {octets}");
+    }
+    assert_eq!(run(format!("P 050F00\nS 00\n{GOOD}V 050F00\n")), "\n0129 0000 0000 0000 0000\n01\n");
+    assert_eq!(run("P 050F00\nS \nV 050F00\n"), "01\n");
+    // The same question before and after the store grows.
+    let wide = line('V', "05 0F 01  01 00001000 00000041 00000000 07");
+    assert_eq!(run(format!("{wide}{}{wide}", store(130))), "00\n01\n");
+    // Counts and the output buffer are no part either.
+    assert_eq!(run(format!("K 4000FFFF\nB 000000\n{}", line('V', AT_THE_START))), "01\n");
+}
+
+#[test]
+fn v_sets_nothing() {
+    let dump = x(&common::request(9, 6, 5, "02 01 00001050 0001"));
+    let lines = [
+        "S 00112233445566778899\n".to_string(),
+        line('P', "05 07 01  01 00001000 00000004 00000001 07"),
+        "K 3FFE0005\n".into(),
+        "T 010203040506\n".into(),
+        "B 1001A5\n".into(),
+        x(&common::request(9, 6, 2, "01 01 00001001 0001 BEEF")),
+        "M\n".into(),
+        "O\n".into(),
+        x(&common::request(9, 6, 5, "01 02 00001000 0002 00001003 0001")),
+        dump.clone(),
+        GOOD.into(),
+        "M\n".into(),
+        "O\n".into(),
+        "C 0000\n".into(),
+    ];
+    let asked = [
+        // Wider than the profile that the second line sets, but not than the one at the start.
+        (line('V', "05 0F 02  01 00001000 00000004 00000001 07  02 00001050 00000001 00000000 07"), "01\n"),
+        (line('V', "06 0F 00"), "00\n"),
+        (line('V', "80 00 09"), "00\n"),
+    ];
+    let without = run(lines.concat());
+    let mut answers = without.lines();
+    let (mut input, mut output) = (String::new(), String::new());
+    for (number, line) in lines.iter().enumerate() {
+        input.push_str(line);
+        let printed = match &line[..1] {
+            "X" => 2,
+            "M" | "O" | "C" => 1,
+            _ => 0,
+        };
+        for answer in answers.by_ref().take(printed) {
+            output.push_str(answer);
+            output.push('\n');
+        }
+        for (asked, answer) in &asked {
+            input.push_str(asked);
+            output.push_str(if number == 0 { "00\n" } else { answer });
+        }
+    }
+    assert_eq!(answers.next(), None);
+    assert_eq!(run(input), output);
+    // Memory 2 and the connection are not served by what was asked about.
+    assert!(without.contains("\n0111 0002 0018 ") && without.contains("\n0103 0011 0018 "), "{without}");
 }
 
 #[test]
@@ -125,6 +415,30 @@ fn r_reads() {
 }
 
 #[test]
+fn r_takes_more_octets_than_x() {
+    let octets = |count: usize| "00".repeat(count);
+    let refused = |detail: &str| format!("0101 {detail} 0000 0000 00 00 00 00 00 \n");
+    assert_eq!(run(format!("R {}\n", octets(65_534))), refused("FFFE"));
+    for count in [65_535, 65_536, 69_999, 70_000] {
+        assert_eq!(run(format!("R {}\n", octets(count))), refused("FFFF"), "{count}");
+    }
+    assert_eq!(run(format!("R {}\n", octets(70_001))), "0200\n");
+    assert_eq!(run(format!("X {}\n", octets(70_000))), "0200\n");
+    assert_eq!(run(format!("R {}", octets(70_000))), refused("FFFF"));
+}
+
+#[test]
+fn r_changes_nothing() {
+    let load = common::request(9, 6, 2, "01 01 00001001 0001 BEEF");
+    let read = x(&load).replacen('X', "R", 1);
+    let unchanged = run(format!("{GOOD}M\nO\n"));
+    assert_eq!(
+        run(format!("{read}{GOOD}M\nO\n")),
+        format!("0000 0000 005C 0000 01 09 06 02 00 0101000010010001BEEF\n{unchanged}")
+    );
+}
+
+#[test]
 fn w_writes() {
     assert_eq!(run("W 050000091101000E\n"), "0000 000C 185CC0000005191101000167EEEE\n");
     assert_eq!(run("W 050000091101000C\n"), "0000 000C 185CC0000005191101000167\n");
@@ -136,6 +450,32 @@ fn w_writes() {
     assert_eq!(run(format!("W 0500000911010001{}\n", "00".repeat(237))), "0133 0000 EE\n");
     assert_eq!(run(format!("W 0500000911010000{}\n", "00".repeat(236))), "0134 0000 \n");
     assert_eq!(run("W 05000009110100\n"), "0200\n");
+}
+
+#[test]
+fn w_with_no_room_with_much_and_with_much_data() {
+    // Without room the line ends with the space, whatever is refused.
+    assert_eq!(run("W 8000000911010000\n"), "0132 0000 \n");
+    assert_eq!(run(format!("W 0500000911010000{}\n", "00".repeat(237))), "0133 0000 \n");
+    assert_eq!(run(format!("W 8000000911010000{}\n", "00".repeat(237))), "0132 0000 \n");
+    let most = run("W 050000091101FFFF\n");
+    assert_eq!(most, format!("0000 000C 185CC0000005191101000167{}\n", "EE".repeat(65_535 - 12)));
+    assert_eq!(run("W 800000091101FFFF\n"), format!("0132 0000 {}\n", "EE".repeat(65_535)));
+    // Any data that the line has room for.
+    assert_eq!(run(format!("W 0500000911010001{}\n", "00".repeat(69_992))), "0133 0000 EE\n");
+    assert_eq!(run(format!("W 0500000911010001{}\n", "00".repeat(69_993))), "0200\n");
+    // The longest packet in just its room.
+    let data = "11".repeat(236);
+    let packet = common::sealed(&format!("185C C000 00F1 10 06 02 00 {data}"));
+    let packet: String = packet.iter().map(|octet| format!("{octet:02X}")).collect();
+    assert_eq!(run(format!("W 05000000060200F8{data}\n")), format!("0000 00F8 {packet}\n"));
+    assert_eq!(run(format!("W 05000000060200F7{data}\n")), format!("0134 0000 {}\n", "EE".repeat(247)));
+}
+
+#[test]
+fn nothing_is_printed_as_an_empty_line() {
+    assert_eq!(run("S \nM\nB 000000\nO\nM"), "\n\n\n");
+    assert_eq!(run(format!("S \nB 000000\n{GOOD}M\nO\n")), "\n0128 0000 0000 0000 0000\n\n\n");
 }
 
 #[test]
@@ -189,6 +529,49 @@ fn bad_lines() {
         "B FFFF00".into(),
         "W ".into(),
         "W 05000009110100".into(),
+        // A letter that takes octets has its space even for none.
+        "S".into(),
+        "K".into(),
+        "T".into(),
+        "B".into(),
+        "R".into(),
+        "W".into(),
+        "V".into(),
+        "K ".into(),
+        "T ".into(),
+        "B ".into(),
+        "V ".into(),
+        // Octets that are not those of a P.
+        "V 05".into(),
+        "V 050F".into(),
+        "V 050F0".into(),
+        "V 051000".into(),
+        "V 052F00".into(),
+        "V 058F00".into(),
+        "V 05FF00".into(),
+        "V 050F0000".into(),
+        "V 050F0100".into(),
+        format!("V 050F01{}", &area[2..]),
+        format!("V 050F01{area}00"),
+        format!("V 050F01{area}{}", &area[2..]),
+        format!("V 050F01{}08", &area[..26]),
+        format!("V 050F01{}0F", &area[..26]),
+        format!("V 050F01{}87", &area[..26]),
+        format!("V 050F01{area}{}08", &area[..26]),
+        format!("V 050F08{}", area.repeat(9)),
+        format!("V 050F00{}", area.repeat(9)),
+        format!("V050F01{area}"),
+        format!("v 050F01{area}"),
+        format!(" V 050F01{area}"),
+        format!("V  050F01{area}"),
+        format!("V\t050F01{area}"),
+        format!("V 050F01{area} "),
+        format!("V 050F01{area}\r"),
+        format!("V 050F01{}G", &area[..27]),
+        "V 05 0F 00".into(),
+        // Letters of wishes that have not landed.
+        "F 00".into(),
+        "D FFFF00".into(),
     ];
     let unchanged = run(format!("{GOOD}M\nO\n"));
     for line in bad {
@@ -204,6 +587,35 @@ fn the_last_line_counts_if_it_is_not_empty() {
     assert_eq!(run("C 0000\n"), "1D0F\n");
     assert_eq!(run("Z"), "0200\n");
     assert_eq!(run("\n"), "0200\n");
+    assert_eq!(run("O\n\nM"), format!("{}\n0200\n{}\n", "00".repeat(4_096), "00".repeat(128)));
+}
+
+#[test]
+fn the_longest_line() {
+    let digits = |letter: &str, count: usize| format!("{letter} {}", "0".repeat(count));
+    let refused = "0101 FFFF 0000 0000 00 00 00 00 00 \n";
+    assert_eq!(run(digits("R", 140_000)), refused);
+    assert_eq!(run(digits("R", 140_000) + "\nC 0000\n"), format!("{refused}1D0F\n"));
+    for count in [139_999, 140_001, 140_002, 140_003, 140_004, 280_000, 1_000_000] {
+        assert_eq!(run(digits("R", count)), "0200\n", "{count}");
+        assert_eq!(run(digits("R", count) + "\nC 0000"), "0200\n1D0F\n", "{count}");
+    }
+}
+
+#[test]
+fn input_in_pieces_through_a_pipe() {
+    let folder = Path::new(env!("CARGO_MANIFEST_DIR")).join("../../crates/cases");
+    let input = fs::read(folder.join("stdin")).expect("its input is stored");
+    let output = fs::read(folder.join("stdout")).expect("its output is stored");
+    for size in [1, 7, 65_536] {
+        let pieces = input.chunks(size).map(<[u8]>::to_vec).collect();
+        assert!(common::piped(command(), pieces) == output, "pieces of {size}");
+    }
+}
+
+#[test]
+fn one_line_is_answered_before_more_is_read() {
+    common::answers_at_once(command(), &[("C 0000\n", "1D0F"), (&line('V', AT_THE_START), "01"), ("\n", "0200")]);
 }
 
 #[test]

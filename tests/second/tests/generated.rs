@@ -3,10 +3,13 @@
 
 use std::fs;
 use std::path::{Path, PathBuf};
-use std::process::{Command, Output};
+use std::process::{self, Output};
+
+use second::cases::{self, Command, State};
+use second::clauses::{ALONE, BOTH};
 
 fn run(program: &str, arguments: &[&str]) -> Output {
-    Command::new(program).args(arguments).output().expect("the program starts")
+    process::Command::new(program).args(arguments).output().expect("the program starts")
 }
 
 /// A file for one test with these octets.
@@ -33,6 +36,50 @@ fn everything_is_reached() {
 
     let cut = file("everything.cut", &answered.stdout[..answered.stdout.len() / 2]);
     assert!(!tally(&input, &cut).status.success());
+}
+
+#[test]
+fn questions_set_nothing_and_are_wanted() {
+    let made = run(env!("CARGO_BIN_EXE_generate"), &["78", "3000"]);
+    let (mut with, mut without) = (State::new(), State::new());
+    let (mut answer, mut answer_without) = (Vec::new(), Vec::new());
+    let mut others = Vec::new();
+    let mut questions = 0;
+    for line in made.stdout.split_inclusive(|octet| *octet == b'\n') {
+        let Some(command) = cases::parse(line.strip_suffix(b"\n").unwrap_or(line)) else { continue };
+        answer.clear();
+        with.obey(command.clone(), &mut answer);
+        if let Command::AskWider(_) = command {
+            questions += 1;
+            continue;
+        }
+        answer_without.clear();
+        without.obey(command, &mut answer_without);
+        assert!(answer == answer_without);
+        others.extend_from_slice(line);
+    }
+    assert!(questions > 400, "{questions}");
+
+    let input = file("others.in", &others);
+    let answered = run(env!("CARGO_BIN_EXE_cases"), &[&input.to_string_lossy()]);
+    let tallied = tally(&input, &file("others.out", &answered.stdout));
+    assert_eq!(tallied.status.code(), Some(1));
+    let text = String::from_utf8(tallied.stdout).expect("text");
+    let never = text.lines().filter(|line| line.starts_with("NEVER REACHED: V 00 only "));
+    assert_eq!(never.count(), ALONE.len() + BOTH.len() + 1);
+}
+
+#[test]
+fn a_wrong_answer_to_a_question_is_not_tallied() {
+    for (question, right, wrong) in [
+        ("V 050F010100001000000000400000000007", "01\n", "00\n"),
+        ("V 060F010100001000000000400000000007", "00\n", "01\n"),
+    ] {
+        let input = file("question.in", question.as_bytes());
+        assert_eq!(tally(&input, &file("question.out", right.as_bytes())).status.code(), Some(1));
+        assert_eq!(tally(&input, &file("question.out", wrong.as_bytes())).status.code(), Some(2));
+        assert_eq!(tally(&input, &file("question.out", b"0200\n")).status.code(), Some(2));
+    }
 }
 
 #[test]

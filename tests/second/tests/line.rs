@@ -4,10 +4,9 @@
 mod common;
 
 use std::fs;
-use std::io::{BufRead, BufReader, Write};
+use std::io::Write;
 use std::path::Path;
 use std::process::{Child, Command, Stdio};
-use std::sync::mpsc;
 use std::thread;
 use std::time::{Duration, Instant};
 
@@ -156,25 +155,7 @@ fn a_hundred_million_digits_without_a_newline() {
 
 #[test]
 fn one_line_is_answered_before_more_is_read() {
-    let mut child = start();
-    let mut input = child.stdin.take().expect("its input");
-    let output = child.stdout.take().expect("its output");
-    let (sender, answers) = mpsc::channel();
-    thread::spawn(move || {
-        for line in BufReader::new(output).lines().map_while(Result::ok) {
-            if sender.send(line).is_err() {
-                break;
-            }
-        }
-    });
-    for _ in 0..2 {
-        input.write_all(b"\n").expect("it reads");
-        input.flush().expect("it reads");
-        let answer = answers.recv_timeout(Duration::from_secs(20));
-        assert_eq!(answer.as_deref(), Ok("012A"));
-    }
-    drop(input);
-    assert!(child.wait().expect("it ends").success());
+    common::answers_at_once(command(), &[("\n", "012A"), ("\n", "012A")]);
 }
 
 #[test]

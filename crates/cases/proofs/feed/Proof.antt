@@ -1,8 +1,6 @@
 -- `cases::feed` meets its contract.
 -- Assumes nothing.
 use Prim.Native.Nat.{_-_}
-use denote.Ref.{now}
-use Rattle.characters.proofs.Lines.{end-inside}
 use lib.ListN.{length}
 use native.Mathlib.Omega.{arith}
 use borrow.Author.Needs.{needs}
@@ -18,9 +16,6 @@ abbrev μ-loop : tie.MeasureT-loop
 loop-holds : tie.Need-loop-holds Inv-loop μ-loop
 loop-holds c = search needs
 
-returns : tie.Need-returns Inv-loop μ-loop
-returns c = search needs
-
 line-end-requires : tie.Need-line-end-requires Inv-loop μ-loop
 line-end-requires c κs = search needs
 
@@ -30,15 +25,17 @@ go-on-requires c κs = search needs
 add-at : tie.Need-add-at Inv-loop μ-loop
 add-at c =
     let after = c .before .before .before .before .before in
-    let start = after .before .before .before .before .before .before .before in
-    let l = after .before .before .before .before in
-    omega (arith, after .line-end .ensures, start .good .1 .0, end-inside (now (start .args .input)) (l .before .loop .at) (omega (arith, l .loop-test .taken)))
+    let start = after .before .before .before .before .before .before in
+    omega (arith, after .line-end .ensures .1, start .good .1 .0)
 
 loop-less : tie.Need-loop-less Inv-loop μ-loop
 loop-less c = search needs
 
 loop-again : tie.Need-loop-again Inv-loop μ-loop
 loop-again c = search needs
+
+returns : tie.Need-returns Inv-loop μ-loop
+returns c = search needs
 
 returns-2 : tie.Need-returns-2 Inv-loop μ-loop
 returns-2 c = search needs
@@ -50,10 +47,10 @@ feed-spec =
     Inv-loop
     μ-loop
     loop-holds
-    returns
     line-end-requires
     go-on-requires
     add-at
     loop-less
     loop-again
+    returns
     returns-2)

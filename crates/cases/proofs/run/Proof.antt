@@ -1,14 +1,15 @@
--- `cases::run` meets its contract.
+-- `cases::run` is safe and ends: the turns that are left are counted down.
 -- Assumes nothing.
+use native.Mathlib.Omega.{arith}
 use borrow.Author.Needs.{needs}
 use Rattle.cases.proofs.run.Statement.{statement}
 use Rattle.cases.proofs.run.Tie as tie
 
 abbrev Inv-loop : tie.InvT-loop
-Inv-loop input₀ octets₀ store₀ out₀ buffer₀ s₀ turns₀ input octets store out buffer s turns = Unit {0}
+Inv-loop input₀ octets₀ store₀ out₀ buffer₀ turns₀ t₀ input octets store out buffer turns t = Unit {0}
 
 abbrev μ-loop : tie.MeasureT-loop
-μ-loop input₀ octets₀ store₀ out₀ buffer₀ s₀ turns₀ input octets store out buffer s turns = turns
+μ-loop input₀ octets₀ store₀ out₀ buffer₀ turns₀ t₀ input octets store out buffer turns t = turns
 
 start-requires : tie.Need-start-requires Inv-loop μ-loop
 start-requires c κs = search needs
@@ -19,9 +20,6 @@ loop-holds c = search needs
 turn-requires : tie.Need-turn-requires Inv-loop μ-loop
 turn-requires c κs = search needs
 
-returns : tie.Need-returns Inv-loop μ-loop
-returns c = search needs
-
 sub-turns : tie.Need-sub-turns Inv-loop μ-loop
 sub-turns c = search needs
 
@@ -30,6 +28,9 @@ loop-less c = search needs
 
 loop-again : tie.Need-loop-again Inv-loop μ-loop
 loop-again c = search needs
+
+returns : tie.Need-returns Inv-loop μ-loop
+returns c = search needs
 
 returns-2 : tie.Need-returns-2 Inv-loop μ-loop
 returns-2 c = search needs
@@ -43,8 +44,8 @@ run-spec =
     start-requires
     loop-holds
     turn-requires
-    returns
     sub-turns
     loop-less
     loop-again
+    returns
     returns-2)

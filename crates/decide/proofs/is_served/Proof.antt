@@ -1,4 +1,4 @@
--- `decide::is_served` meets its contract: at each `return` the tests that led there say which flags are set.
+-- `decide::is_served` meets its contract.
 -- Assumes nothing.
 use borrow.Author.Tests.{eq-eqb, ne-eqb}
 use Rattle.decide.specs.Request.{serves}

@@ -11,6 +11,9 @@ Inv-loop input₀ store₀ frames₀ text₀ turns₀ t₀ input store frames te
 abbrev μ-loop : tie.MeasureT-loop
 μ-loop input₀ store₀ frames₀ text₀ turns₀ t₀ input store frames text turns t = turns
 
+start-requires : tie.Need-start-requires Inv-loop μ-loop
+start-requires c κs = search needs
+
 loop-holds : tie.Need-loop-holds Inv-loop μ-loop
 loop-holds c = search needs
 
@@ -38,6 +41,7 @@ run-spec =
     (tie.spec
     Inv-loop
     μ-loop
+    start-requires
     loop-holds
     turn-requires
     sub-turns

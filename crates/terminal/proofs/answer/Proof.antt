@@ -2,50 +2,77 @@
 -- Assumes nothing.
 use mathlib.Core.List.{[], _∷_}
 use mathlib.Core.Bool.{true, false}
-use mathlib.Core.Path.{_≡_, refl, sym, ap, _∙_}
+use mathlib.Core.Path.{_≡_, refl, sym, ap, subst, _∙_}
+use lib.ListN.{length}
 use denote.Ref.{now}
 use borrow.Author.Needs.{needs}
-use Rattle.decide.specs.Table.{silent}
-use Rattle.terminal.proofs.Answering.{answered, accepted-due, accepted-store, refused-store, silent-due, refused-due, heard-four, accepted-verdict, accepted-form}
-use Rattle.terminal.proofs.Steps.{did-none}
-use Rattle.terminal.specs.Outcome.{Input, verdictOn, acceptedReports}
-use Rattle.terminal.specs.Reports.{refusal}
-use Rattle.checks.specs.Verdict.{isAccepted}
+use Rattle.octets.specs.Copy.{placed}
 use Rattle.checks.specs.declared.Verdict.{Verdict}
+use Rattle.checks.specs.Verdict.{isAccepted, silent}
+use Rattle.checks.proofs.Numbers.{silent-refuses}
+use Rattle.tc.specs.Layout.{fieldsOf, dataSpan, applicationOf}
+use Rattle.decide.specs.declared.Decision.{Decision}
+use Rattle.decide.specs.Decision.{acceptedWith}
+use Rattle.decide.specs.Table.{taskOf, FormedFor}
+use Rattle.decide.proofs.Checked.{decision-decided, decision-accepted}
+use Rattle.terminal.specs.Reports.{failed}
+use Rattle.terminal.specs.Outcome.{Input, input, verdictOn}
+use Rattle.terminal.specs.Act.{CarriesOut}
+use Rattle.terminal.proofs.Steps.{did-none}
+use Rattle.terminal.proofs.Answering.{answered, accepted-due, accepted-store, refused-store, silent-due, refused-due, heard-four, accepted-formed}
 use Rattle.terminal.proofs.answer.Statement.{statement}
 use Rattle.terminal.proofs.answer.Tie as tie
 
 -- everything that the answer may depend on
 abbrev inputOf : tie.Start → Input
-inputOf s = record {
-  profile = s .args .profile;
-  state = s .args .state;
-  time = s .args .time;
-  packet = now (s .args .packet);
-  store = now (s .args .store);
-  out = now (s .args .out);
-}
+inputOf s = input (s .args .profile) (s .args .state) (s .args .time) (now (s .args .packet)) (now (s .args .store)) (now (s .args .out))
 
-accepts : (c : tie.Then1) → isAccepted (verdictOn (inputOf (c .before .before .before .before .before .before))) ≡ true
-accepts c = ap isAccepted (sym (c .before .before .decide .ensures)) ∙ sym (c .before .accepted .ensures) ∙ c .if1 .taken
+decides : (c : tie.After-decide) → c .decide .result .verdict ≡ verdictOn (inputOf (c .before .before .before .before))
+decides c =
+    let i = inputOf (c .before .before .before .before) in
+    ap (λ (d : Decision). d .verdict) (c .decide .ensures) ∙ decision-decided (i .profile) (i .state) (length (i .store)) (length (i .out)) (i .packet)
 
-refuses : (c : tie.Else1) → isAccepted (verdictOn (inputOf (c .before .before .before .before .before .before))) ≡ false
-refuses c = ap isAccepted (sym (c .before .before .decide .ensures)) ∙ sym (c .before .accepted .ensures) ∙ c .if1 .left
+heard : (c : tie.Else1) → silent (verdictOn (inputOf (c .before .before .before .before .before .before))) ≡ false
+heard c = ap silent (sym (decides (c .before .before))) ∙ sym (c .before .is-silent .ensures) ∙ c .if1 .left
 
-heard : (c : tie.Else2) → silent (verdictOn (inputOf (c .before .before .before .before .before .before .before .before))) ≡ false
-heard c = ap silent (sym (c .before .before .before .before .decide .ensures)) ∙ sym (c .before .is-silent .ensures) ∙ c .if2 .left
+accepts : (c : tie.Then2) → isAccepted (verdictOn (inputOf (c .before .before .before .before .before .before .before .before .before))) ≡ true
+accepts c = ap isAccepted (sym (decides (c .before .before .before .before .before))) ∙ sym (c .before .accepted .ensures) ∙ c .if2 .taken
+
+refuses : (c : tie.Else2) → isAccepted (verdictOn (inputOf (c .before .before .before .before .before .before .before .before .before))) ≡ false
+refuses c = ap isAccepted (sym (decides (c .before .before .before .before .before))) ∙ sym (c .before .accepted .ensures) ∙ c .if2 .left
+
+-- an accepted packet's decision has its work
+works : (c : tie.Then2)
+    → (let i = inputOf (c .before .before .before .before .before .before .before .before .before) in
+    c .before .before .before .before .before .decide .result ≡ acceptedWith (taskOf (i .profile) (i .packet)) (fieldsOf (i .packet) .ack) (dataSpan (i .packet)))
+works c =
+    let i = inputOf (c .before .before .before .before .before .before .before .before .before) in
+    c .before .before .before .before .before .decide .ensures ∙ decision-accepted (i .profile) (i .state) (length (i .store)) (length (i .out)) (i .packet) (accepts c)
 
 decide-requires : tie.Need-decide-requires
 decide-requires c κs = search needs
 
+is-silent-requires : tie.Need-is-silent-requires
+is-silent-requires c κs = search needs
+
+returns : tie.Need-returns
+returns c =
+    let d = c .before .before in
+    let i = inputOf (d .before .before .before .before) in
+    let quiet : silent (verdictOn i) ≡ true = ap silent (sym (decides d)) ∙ sym (c .before .is-silent .ensures) ∙ c .if1 .taken in
+    let refused = silent-refuses (verdictOn i) quiet in
+    answered i 0 _ _ _ _ [] _ (decides d) (silent-due i refused quiet) (refused-store i refused) (did-none _ _ _ _) refl
+
 accepted-requires : tie.Need-accepted-requires
 accepted-requires c κs = search needs
 
-accept-requires : tie.Need-accept-requires
-accept-requires c κs =
-    let t = c .before .before in
-    let i = inputOf (t .before .before .before .before .before .before) in
-    (heard-four i (ap silent (accepted-verdict i (accepts t))), accepted-form i (accepts t))
+carry-out-requires : tie.Need-carry-out-requires
+unfolding applicationOf
+carry-out-requires c κs =
+    let t = c .before .before .before in
+    let e = t .before .before .before in
+    let i = inputOf (e .before .before .before .before .before .before) in
+    (refl, (heard-four i (heard e), subst (λ (d : Decision). FormedFor (d .work .task) (placed (d .work .«data») (i .packet))) (sym (works t)) (accepted-formed i (accepts t))))
 
 outcome-of-requires : tie.Need-outcome-of-requires
 outcome-of-requires c κs = search needs
@@ -56,30 +83,23 @@ same-length c = search needs
 same-length-2 : tie.Need-same-length-2
 same-length-2 c = search needs
 
-returns : tie.Need-returns
-returns c =
-    let k = c .before .before .before .before .before in
-    let t = k .before .before .before in
-    let s = t .before .before .before .before .before .before in
-    answered (inputOf s) 4072 (t .before .before .decide .result) (k .accept .result) (k .accept .last .1 .1 .1 .1 .1 .0) (k .accept .last .1 .1 .1 .1 .0)
-    (acceptedReports (s .args .profile) (now (s .args .packet)) (now (s .args .store))) (c .outcome-of .result)
-    (t .before .before .decide .ensures) (accepted-due (inputOf s) (accepts t)) (k .accept .ensures .1 ∙ accepted-store (inputOf s) (accepts t)) (k .accept .ensures .0) (c .outcome-of .ensures)
-
-is-silent-requires : tie.Need-is-silent-requires
-is-silent-requires c κs = search needs
-
 returns-2 : tie.Need-returns-2
+unfolding applicationOf
 returns-2 c =
-    let e = c .before .before in
-    let s = e .before .before .before .before .before .before in
+    let k = c .before .before .before .before .before in
+    let t = k .before .before .before .before in
+    let d = t .before .before .before .before .before in
+    let s = d .before .before .before .before in
     let i = inputOf s in
-    let quiet : silent (verdictOn i) ≡ true = ap silent (sym (e .before .before .decide .ensures)) ∙ sym (c .before .is-silent .ensures) ∙ c .if2 .taken in
-    answered i 0 (e .before .before .decide .result) (record { at = 0; state = s .args .state }) (now (s .args .out)) (now (s .args .store)) [] _
-    (e .before .before .decide .ensures) (silent-due i (refuses e) quiet) (refused-store i (refuses e))
-    (did-none (record { pid = s .args .profile .pid; time = s .args .time }) 0 (record { at = 0; state = s .args .state }) (now (s .args .out))) refl
+    let carried =
+    subst (λ (x : Decision). CarriesOut (record { pid = i .profile .pid; time = i .time }) (x .work) (record { at = 0; counts = i .state .counts }) (k .carry-out .result) (i .packet) (i .out) (k .carry-out .last .1 .1 .1 .1 .1 .0) (i .store) (k .carry-out .last .1 .1 .1 .1 .0))
+    (works t) (k .carry-out .ensures) in
+    answered i _ _ _ _ _ _ _ (decides d) (accepted-due i (accepts t)) (carried .store-is ∙ accepted-store i (accepts t)) (carried .did) (c .outcome-of .ensures)
 
-refuse-requires : tie.Need-refuse-requires
-refuse-requires c κs = heard-four (inputOf (c .before .before .before .before .before .before .before .before .before)) (heard (c .before))
+report-refusal-requires : tie.Need-report-refusal-requires
+report-refusal-requires c κs =
+    let e = c .before .before .before .before in
+    (search needs, heard-four (inputOf (e .before .before .before .before .before .before)) (heard e))
 
 outcome-of-requires-2 : tie.Need-outcome-of-requires-2
 outcome-of-requires-2 c κs = search needs
@@ -90,30 +110,28 @@ same-length-3 c = search needs
 returns-3 : tie.Need-returns-3
 returns-3 c =
     let f = c .before .before .before in
-    let h = f .before .before in
-    let e = h .before .before in
-    let s = e .before .before .before .before .before .before in
-    let i = inputOf s in
-    answered i 24 (e .before .before .decide .result) (f .refuse .result) (f .refuse .last .1 .1 .1 .1 .1 .0) (now (s .args .store))
-    (refusal (e .before .before .decide .result) (now (s .args .packet)) ∷ []) (c .outcome-of2 .result)
-    (e .before .before .decide .ensures)
-    (ap (λ (v : Verdict). refusal v (now (s .args .packet)) ∷ []) (e .before .before .decide .ensures) ∙ refused-due i (refuses e) (heard h))
-    (refused-store i (refuses e)) (f .refuse .ensures) (c .outcome-of2 .ensures)
+    let n = f .before .before in
+    let e = n .before .before .before in
+    let d = e .before .before in
+    let i = inputOf (d .before .before .before .before) in
+    answered i _ _ _ _ _ _ _ (decides d)
+    (ap (λ (v : Verdict). failed v (i .packet) ∷ []) (decides d) ∙ refused-due i (refuses n) (heard e))
+    (refused-store i (refuses n)) (f .report-refusal .ensures) (c .outcome-of2 .ensures)
 
 pub answer-spec : {M : Type 1} → statement M
 answer-spec =
     tie.close
     (tie.spec
     decide-requires
+    is-silent-requires
+    returns
     accepted-requires
-    accept-requires
+    carry-out-requires
     outcome-of-requires
     same-length
     same-length-2
-    returns
-    is-silent-requires
     returns-2
-    refuse-requires
+    report-refusal-requires
     outcome-of-requires-2
     same-length-3
     returns-3)

@@ -8,8 +8,10 @@ use lib.ListN.{length, getD}
 use borrow.Author.Needs.{needs}
 use Rattle.octets.specs.Numbers.{octets16}
 use Rattle.octets.specs.Fields.{idOf, controlOf, apidOf}
-use Rattle.tm.specs.Frame.{categoryOf, headOf}
-use Rattle.tm.proofs.Elements.{elements-all, field-length}
+use Rattle.octets.proofs.Words.{run}
+use Rattle.tm.specs.Counts.{categoryOf}
+use Rattle.tm.specs.Frame.{frameHead, uncounted, headOf}
+use Rattle.tm.proofs.Source.{run-all}
 use Rattle.tm.proofs.head.Statement.{statement}
 use Rattle.tm.proofs.head.Tie as tie
 
@@ -82,8 +84,11 @@ array-read-t49 c = search needs
 array-read-t52 : tie.Need-array-read-t52
 array-read-t52 c = search needs
 
+time-length : (t : tie.Start) → length (t .args .stamp .time) ≡ 6
+time-length t = search needs
+
 returns : tie.Need-returns
-unfolding headOf
+unfolding headOf run
 returns c =
     let k = c .before .before .before .before in
     let t = k .before .before .before .before .before in
@@ -95,10 +100,10 @@ returns c =
     ∙ ap octets16 (k .before .join-id .ensures ∙ ap (λ (a : ℕ). idOf (record { version = 0; kind = 0; header = 1; apid = a })) apid) in
     let control : c .before .before .octets-of162 .result ≡ octets16 (controlOf (record { flags = 3; count = s .count })) =
     c .before .before .octets-of162 .ensures ∙ ap octets16 (c .before .before .before .join-sequence .ensures) in
-    let field : (t .args .octets % 65536 + 16 - 7) % 65536 ≡ (t .args .octets + 16 - 7) % 65536 = omega arith in
-    let total : c .before .octets-of163 .result ≡ octets16 ((t .args .octets + 16 - 7) % 65536) =
+    let field : (t .args .octets % 65536 + frameHead - uncounted) % 65536 ≡ (t .args .octets + frameHead - uncounted) % 65536 = omega arith in
+    let total : c .before .octets-of163 .result ≡ octets16 ((t .args .octets + frameHead - uncounted) % 65536) =
     c .before .octets-of163 .ensures ∙ ap octets16 field in
-    let six : length (s .time) ≡ 6 = field-length (s .time) 6 (t .good .0 .1 .1 .1 .1 .0 .1 .0 .1) in
+    let six : length (s .time) ≡ 6 = time-length t in
     λ i.
     getD (id i) 0 0
     ∷ getD (id i) 1 0
@@ -106,7 +111,7 @@ returns c =
     ∷ getD (control i) 1 0
     ∷ getD (total i) 0 0
     ∷ getD (total i) 1 0
-    ∷ elements-all (s .time) 6 six i
+    ∷ run-all (s .time) 6 six i
     ++ 0 ∷ s .kind ∷ s .subtype ∷ 0 ∷ []
 
 pub head-spec : {M : Type 1} → statement M

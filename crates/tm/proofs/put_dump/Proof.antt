@@ -8,8 +8,8 @@ use lib.ListN.{length}
 use denote.Ref.{now}
 use borrow.Author.Needs.{needs}
 use Rattle.octets.specs.Copy.{laid}
+use Rattle.tm.specs.Frame.{frameHead}
 use Rattle.tm.specs.Source.{dumpHead}
-use Rattle.tm.proofs.Elements.{field-length}
 use Rattle.tm.proofs.Frame.{frame-length, laid-frame-split}
 use Rattle.tm.proofs.put_dump.Statement.{statement}
 use Rattle.tm.proofs.put_dump.Tie as tie
@@ -41,14 +41,23 @@ put-requires-2 c κs = search needs
 add-put-2 : tie.Need-add-put-2
 add-put-2 c = search needs
 
+add-put-3 : tie.Need-add-put-3
+add-put-3 c = search needs
+
 put-requires-3 : tie.Need-put-requires-3
 put-requires-3 c κs = search needs
 
 add-result : tie.Need-add-result
 add-result c = search needs
 
+add-result-2 : tie.Need-add-result-2
+add-result-2 c = search needs
+
 same-length : tie.Need-same-length
 same-length c = search needs
+
+time-length : (t : tie.Start) → length (t .args .stamp .time) ≡ 6
+time-length t = search needs
 
 returns : tie.Need-returns
 returns c =
@@ -58,18 +67,19 @@ returns c =
     let b = first .before .before .before in
     let t = b .before .before .before .before in
     let s = t .args in
-    let six : length (s .stamp .time) ≡ 6 = field-length (s .stamp .time) 6 (t .good .1 .1 .0 .1 .1 .1 .1 .0 .1 .0 .1) in
     let x : List ℕ = dumpHead (s .memory) (s .start) (s .words) in
-    let y : List ℕ = now (s .stored) in (
-      omega (arith, third .put3 .ensures .0, frame-length (s .stamp) (x ++ y) six),
-      third .put3 .ensures .1
-          ∙ ap (λ (d : List ℕ). laid d (s .at + 24) y)
+    let y : List ℕ = now (s .stored) in
+    record {
+      length-is = omega (arith, third .put3 .ensures .0, frame-length (s .stamp) (x ++ y) (time-length t));
+      out-is =
+          third .put3 .ensures .1
+          ∙ ap (λ (d : List ℕ). laid d (s .at + frameHead + 8) y)
           (second .put2 .ensures .1
-          ∙ ap₂ (λ (d h : List ℕ). laid d (s .at + 16) h)
+          ∙ ap₂ (λ (d h : List ℕ). laid d (s .at + frameHead) h)
           (first .put .ensures .1 ∙ ap (λ (h : List ℕ). laid (now (s .out)) (s .at) h) (b .before .head .ensures))
           (b .dump-head .ensures))
-          ∙ laid-frame-split (now (s .out)) (s .at) (s .stamp) x y six,
-    )
+          ∙ laid-frame-split (now (s .out)) (s .at) (s .stamp) x y (time-length t);
+    }
 
 pub put-dump-spec : {M : Type 1} → statement M
 put-dump-spec =
@@ -84,7 +94,9 @@ put-dump-spec =
     slice-aggregate-put-2
     put-requires-2
     add-put-2
+    add-put-3
     put-requires-3
     add-result
+    add-result-2
     same-length
     returns)

@@ -1,14 +1,14 @@
 -- `tm::put_frame` meets its contract: the head is laid, and behind it the source data.
 -- Assumes nothing.
-use mathlib.Core.Path.{_≡_, ap, sym, _∙_}
+use mathlib.Core.Path.{_≡_, ap, _∙_}
 use mathlib.Core.List.{List}
 use Prim.Native.Nat.{ℕ, _+_}
-use native.Mathlib.Nat.{add-comm}
+use native.Mathlib.Omega.{arith}
 use lib.ListN.{length}
 use denote.Ref.{now}
 use borrow.Author.Needs.{needs}
 use Rattle.octets.specs.Copy.{laid}
-use Rattle.tm.proofs.Elements.{field-length}
+use Rattle.tm.specs.Frame.{frameHead}
 use Rattle.tm.proofs.Frame.{frame-length, laid-frame}
 use Rattle.tm.proofs.put_frame.Statement.{statement}
 use Rattle.tm.proofs.put_frame.Tie as tie
@@ -34,20 +34,23 @@ add-result c = search needs
 same-length : tie.Need-same-length
 same-length c = search needs
 
+time-length : (t : tie.Start) → length (t .args .stamp .time) ≡ 6
+time-length t = search needs
+
 returns : tie.Need-returns
 returns c =
-    let t = c .before .before .before .before .before .before .before .before .before .before .before .before in
+    let second = c .before .before in
+    let first = second .before .before .before .before in
+    let t = first .before .before .before .before .before .before in
     let s = t .args in
-    let p = c .before .before .before .before .before .before in
-    let six : length (s .stamp .time) ≡ 6 = field-length (s .stamp .time) 6 (t .good .1 .1 .0 .1 .1 .1 .1 .0 .1 .0 .1) in (
-      ap (λ (n : ℕ). n + 16) (c .before .before .put2 .ensures .0)
-          ∙ add-comm (length (now (s .source))) 16
-          ∙ sym (frame-length (s .stamp) (now (s .source)) six),
-      c .before .before .put2 .ensures .1
-          ∙ ap (λ (d : List ℕ). laid d (s .at + 16) (now (s .source)))
-          (p .put .ensures .1 ∙ ap (λ (h : List ℕ). laid (now (s .out)) (s .at) h) (p .before .before .before .head .ensures))
-          ∙ laid-frame (now (s .out)) (s .at) (s .stamp) (now (s .source)) six,
-    )
+    record {
+      length-is = omega (arith, second .put2 .ensures .0, frame-length (s .stamp) (now (s .source)) (time-length t));
+      out-is =
+          second .put2 .ensures .1
+          ∙ ap (λ (d : List ℕ). laid d (s .at + frameHead) (now (s .source)))
+          (first .put .ensures .1 ∙ ap (λ (h : List ℕ). laid (now (s .out)) (s .at) h) (first .before .before .before .head .ensures))
+          ∙ laid-frame (now (s .out)) (s .at) (s .stamp) (now (s .source)) (time-length t);
+    }
 
 pub put-frame-spec : {M : Type 1} → statement M
 put-frame-spec =

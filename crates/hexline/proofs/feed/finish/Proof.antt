@@ -1,27 +1,37 @@
 -- `hexline::feed::finish` meets its contract.
 -- Assumes nothing.
+use Rattle.lines.proofs.Walks.{finishes-none, finishes-last}
+use Rattle.hexline.specs.Line.{Station}
+use Rattle.hexline.specs.Whole.{pieceProgram}
+use Rattle.hexline.specs.Said.{stationOf}
+use Rattle.hexline.proofs.Pieces.{said-after}
 use denote.Ref.{now}
-use Rattle.hexline.proofs.Turns.{last-none, last-some}
-use lib.Seq.{length-take-le}
-use mathlib.Core.Path.{sym}
-use native.Mathlib.Omega.{arith}
+use mathlib.Core.Path.{sym, _∙_}
 use borrow.Author.Needs.{needs}
 use Rattle.hexline.proofs.feed.finish.Statement.{statement}
 use Rattle.hexline.proofs.feed.finish.Tie as tie
 
-least-requires : tie.Need-least-requires
-least-requires c κs = search needs
+front-requires : tie.Need-front-requires
+front-requires c κs = search needs
+
+last-requires : tie.Need-last-requires
+last-requires c κs = search needs
+
+enum-known-end : tie.Need-enum-known-end
+enum-known-end c = search needs
+
+enum-told : tie.Need-enum-told
+enum-told c = search needs
 
 returns : tie.Need-returns
 returns c =
-    let a = c .before .before .before .before .before .before .args in
-    last-none (a .profile) (record { state = a .state; store = now (a .store); out = now (a .out) }) (now (a .input)) (now (a .text)) (a .have) (c .before .least .result) (c .before .least .ensures) (c .if1 .taken)
+    let n = c .before .before in
+    let f = n .before in
+    let a = f .before .before .before .before .before .before .before .args in
+    finishes-none (pieceProgram (a .profile)) (stationOf (a .p .state) (a .store) (a .out)) (a .p .lines .begins) (now (a .text)) _ _ (f .front .ensures) (sym (n .last .ensures) ∙ c .enum-told .given .1)
 
-slice-aggregate-answer : tie.Need-slice-aggregate-answer
-slice-aggregate-answer c = sym (length-take-le (c .before .before .least .result) (now (c .before .before .before .before .before .before .before .args .input)) (omega (arith, c .before .before .least .ensures)))
-
-answer-requires : tie.Need-answer-requires
-answer-requires c κs = search needs
+answer-piece-requires : tie.Need-answer-piece-requires
+answer-piece-requires c κs = search needs
 
 same-length : tie.Need-same-length
 same-length c = search needs
@@ -34,20 +44,25 @@ same-length-3 c = search needs
 
 returns-2 : tie.Need-returns-2
 returns-2 c =
-    let n = c .before .before .before .before .before .before in
-    let e = n .before .before .before .before .before in
-    let a = e .before .before .before .before .before .before .args in
-    last-some (a .profile) (record { state = a .state; store = now (a .store); out = now (a .out) }) (now (a .input)) (now (a .text)) (a .have) (e .before .least .result) (e .before .least .ensures)
-    (n .answer .result) _ _ _ (omega (arith, e .if1 .left)) (n .answer .ensures)
+    let k = c .before .before .before .before .before .before in
+    let t = k .before .before .before .before in
+    let n = t .before .before .before in
+    let f = n .before in
+    let a = f .before .before .before .before .before .before .before .args in
+    let m : Station = stationOf (a .p .state) (a .store) (a .out) in
+    finishes-last (pieceProgram (a .profile)) m (a .p .lines .begins) (now (a .text)) _ _ _ _ (k .answer-piece .result .at) _ _ (f .front .ensures) (sym (n .last .ensures) ∙ t .before .end .given .1)
+    (said-after (k .answer-piece .ensures)) (k .answer-piece .ensures .at-is) (k .answer-piece .ensures .text-is)
 
 pub finish-spec : {M : Type 1} → statement M
 finish-spec =
     tie.close
     (tie.spec
-    least-requires
+    front-requires
+    last-requires
+    enum-known-end
+    enum-told
     returns
-    slice-aggregate-answer
-    answer-requires
+    answer-piece-requires
     same-length
     same-length-2
     same-length-3

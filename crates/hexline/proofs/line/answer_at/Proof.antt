@@ -34,7 +34,7 @@ returns c =
     let k = c .before .before in
     let t = k .before .before in
     let a = t .before .before .before .before .before .before .args in
-    line-refused (a .profile) (record { state = a .state; store = now (a .store); out = now (a .out) }) (now (a .line)) (a .at) (k .put-closing .result) (now (a .text)) (k .put-closing .last .1 .1 .0)
+    line-refused (a .profile) (record { machine = record { state = a .state; store = now (a .store) }; out = now (a .out) }) (now (a .line)) (a .at) (k .put-closing .result) (now (a .text)) (k .put-closing .last .1 .1 .0)
     (sym (t .before .is-packet .ensures) ∙ not-true _ (t .if1 .taken)) (k .put-closing .ensures .0) (k .put-closing .ensures .1)
 
 slice-aggregate-decode : tie.Need-slice-aggregate-decode
@@ -67,7 +67,7 @@ returns-2 c =
     let d = v .before .before .before .before .before .before in
     let e = d .before .before in
     let a = e .before .before .before .before .before .before .args in
-    line-served (a .profile) (record { state = a .state; store = now (a .store); out = now (a .out) }) (now (a .line)) (take (d .decode .result) (d .decode .last .1 .0)) (a .at) (now (a .text))
+    line-served (a .profile) (record { machine = record { state = a .state; store = now (a .store) }; out = now (a .out) }) (now (a .line)) (take (d .decode .result) (d .decode .last .1 .0)) (a .at) (now (a .text))
     (v .serve .result) (v .serve .last .1 .1 .1 .0) (v .serve .last .1 .1 .1 .1 .0) (v .serve .last .1 .1 .1 .1 .1 .0) (good e) (read d .octets) (v .serve .ensures)
 
 pub answer-at-spec : {M : Type 1} → statement M

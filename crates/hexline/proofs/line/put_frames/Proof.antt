@@ -1,7 +1,8 @@
 -- `hexline::line::put_frames` meets its contract.
 -- Assumes nothing.
-use Rattle.hexline.proofs.Cutting.{laid-cut-next, cut-end}
-use Rattle.hexline.specs.Cut.{cut}
+use Rattle.hexline.proofs.Cutting.{laid-cut-next, lines-end}
+use Rattle.tm.specs.Frame.{cut}
+use Rattle.hexline.specs.Line.{linesOf}
 use Rattle.octets.proofs.Laid.{laid-none}
 use Rattle.octets.specs.Copy.{laid}
 use denote.Ref.{now}
@@ -15,7 +16,7 @@ use Rattle.hexline.proofs.line.put_frames.Statement.{statement}
 use Rattle.hexline.proofs.line.put_frames.Tie as tie
 
 abbrev Inv-loop : tie.InvT-loop
-Inv-loop frames text₀ at from₀ to₀ text from to = (from ≤ length frames) × (length text ≡ length text₀) × (to ≤ at + 3 * from) × (to + length (cut (drop from frames)) ≡ at + length (cut frames)) × (laid text to (cut (drop from frames)) ≡ laid text₀ at (cut frames))
+Inv-loop frames text₀ at from₀ to₀ text from to = (from ≤ length frames) × (length text ≡ length text₀) × (to ≤ at + 3 * from) × (to + length (linesOf (cut (drop from frames))) ≡ at + length (linesOf (cut frames))) × (laid text to (linesOf (cut (drop from frames))) ≡ laid text₀ at (linesOf (cut frames)))
 
 abbrev μ-loop : tie.MeasureT-loop
 μ-loop frames text₀ at from₀ to₀ text from to = length frames - from
@@ -62,7 +63,7 @@ loop-again c =
       search needs,
       omega (arith, k .put-line .ensures .0, length-take (end - l .from) (drop (l .from) s), length-drop (l .from) s, f .frame-end .ensures, l .inv .2, f .before .loop-test .taken),
       omega (arith, k .put-line .ensures .0, next .1, l .inv .3),
-      ap₂ (λ (d : List ℕ) (n : ℕ). laid d n (cut (drop end s))) (k .put-line .ensures .1) (k .put-line .ensures .0) ∙ next .0 ∙ l .inv .4,
+      ap₂ (λ (d : List ℕ) (n : ℕ). laid d n (linesOf (cut (drop end s)))) (k .put-line .ensures .1) (k .put-line .ensures .0) ∙ next .0 ∙ l .inv .4,
     )
 
 same-length : tie.Need-same-length Inv-loop μ-loop
@@ -74,7 +75,7 @@ returns c =
     let a = c .before .before .before .before .args in
     let s : List ℕ = now (a .frames) in
     let all : l .from ≡ length s = omega (arith, l .inv .0, c .loop-test .left) in
-    let none : cut (drop (l .from) s) ≡ [] = ap (λ (n : ℕ). cut (drop n s)) all ∙ cut-end s in (
+    let none : linesOf (cut (drop (l .from) s)) ≡ [] = ap (λ (n : ℕ). linesOf (cut (drop n s))) all ∙ lines-end s in (
       omega (arith, l .inv .3, ap length none),
       sym (laid-none (l .text) (l .to)) ∙ ap (λ (r : List ℕ). laid (l .text) (l .to) r) (sym none) ∙ l .inv .4,
     )

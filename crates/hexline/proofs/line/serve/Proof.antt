@@ -2,7 +2,7 @@
 -- Assumes nothing.
 use Rattle.hexline.proofs.Cutting.{cut-most}
 use Rattle.hexline.proofs.Serving.{Front, answered-front, packet-said}
-use Rattle.hexline.specs.Line.{inputFor}
+use Rattle.hexline.specs.Line.{packetInput}
 use denote.Ref.{now}
 use lib.Seq.{length-take-le}
 use lib.ListN.{take}
@@ -14,8 +14,8 @@ use Rattle.hexline.proofs.line.serve.Tie as tie
 
 -- what stands at the front of the output buffer after the terminal's answer
 front : (k : tie.After-answer)
-    → Front (inputFor (k .before .before .before .before .before .before .before .args .profile)
-    (record { state = k .before .before .before .before .before .before .before .args .state; store = now (k .before .before .before .before .before .before .before .args .store); out = now (k .before .before .before .before .before .before .before .args .out) })
+    → Front (packetInput (k .before .before .before .before .before .before .before .args .profile)
+    (record { machine = record { state = k .before .before .before .before .before .before .before .args .state; store = now (k .before .before .before .before .before .before .before .args .store) }; out = now (k .before .before .before .before .before .before .before .args .out) })
     (now (k .before .before .before .before .before .before .before .args .packet)))
     (k .answer .result) (k .answer .last .1 .1 .1 .1 .1 .0)
 front k = answered-front _ (k .answer .result) (k .answer .last .1 .1 .1 .1 .0) (k .answer .last .1 .1 .1 .1 .1 .0) refl (k .answer .ensures)
@@ -57,7 +57,7 @@ returns c =
     let f = v .before .before .before .before in
     let k = f .before .before .before .before .before .before .before in
     let a = k .before .before .before .before .before .before .before .args in
-    packet-said (a .profile) (record { state = a .state; store = now (a .store); out = now (a .out) }) (now (a .packet)) (a .at) (now (a .text))
+    packet-said (a .profile) (record { machine = record { state = a .state; store = now (a .store) }; out = now (a .out) }) (now (a .packet)) (a .at) (now (a .text))
     (k .answer .result) (k .answer .last .1 .1 .1 .1 .0) (k .answer .last .1 .1 .1 .1 .1 .0) (f .put-frames .last .1 .0) (v .put-verdict .last .1 .0)
     (f .put-frames .result) (v .put-verdict .result) (k .answer .ensures) (f .put-frames .ensures .0) (f .put-frames .ensures .1) (v .put-verdict .ensures .0) (v .put-verdict .ensures .1)
 

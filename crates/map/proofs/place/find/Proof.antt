@@ -5,7 +5,7 @@ use native.Mathlib.Omega.{arith}
 use lib.ListN.{length, take, drop, length-map}
 use borrow.Author.Tests.{eq-eqb, ne-eqb}
 use borrow.Author.Needs.{needs}
-use Rattle.map.specs.Place.{findIn, used}
+use Rattle.map.specs.Place.{areasMost, findIn, used}
 use Rattle.map.proofs.Area.{the-type}
 use Rattle.map.proofs.Walk.{left-next, left-none, used-are}
 use Rattle.map.proofs.place.find.Statement.{statement}
@@ -17,8 +17,8 @@ Inv-loop id areas count i₀ i = findIn id (take count areas) ≡ findIn id (dro
 abbrev μ-loop : tie.MeasureT-loop
 μ-loop id areas count i₀ i = count - i
 
-eight : (s : tie.Start Inv-loop μ-loop) → length (s .args .profile .areas) ≡ 8
-eight s = sym (length-map (s .args .profile .areas) (the-type .to)) ∙ s .good .0 .1 .1 .1 .1 .1 .1 .1 .1 .0 .1 .0 .1
+eight : (s : tie.Start Inv-loop μ-loop) → length (s .args .profile .areas) ≡ areasMost
+eight s = sym (length-map (s .args .profile .areas) (the-type .to)) ∙ s .good .0 .1 .1 .1 .1 .1 .0 .1 .0 .1
 
 room : (s : tie.After-places-used Inv-loop μ-loop) → s .places-used .result ≤ length (s .before .before .args .profile .areas)
 room s = let h = eight (s .before .before) in omega arith

@@ -1,5 +1,5 @@
 -- `place::octet_at` meets its contract. Below the start the difference is 0.
-use Rattle.map.specs.Place.{octetAt, octetsOf}
+use Rattle.map.specs.Place.{wordOctets, octetAt, octetsOf}
 use native.Mathlib.Omega.{arith}
 use borrow.Author.Needs.{needs}
 use Rattle.map.proofs.place.octet_at.Statement.{statement}
@@ -12,7 +12,7 @@ octets-in-requires : tie.Need-octets-in-requires
 octets-in-requires c κs = search needs
 
 returns : tie.Need-returns
-unfolding octetAt octetsOf
+unfolding octetAt octetsOf wordOctets
 returns c = omega arith
 
 end-of-requires : tie.Need-end-of-requires
@@ -22,7 +22,7 @@ octets-in-requires-2 : tie.Need-octets-in-requires-2
 octets-in-requires-2 c κs = search needs
 
 returns-2 : tie.Need-returns-2
-unfolding octetAt octetsOf
+unfolding octetAt octetsOf wordOctets
 returns-2 c = omega arith
 
 pub octet-at-spec : {M : Type 1} → statement M

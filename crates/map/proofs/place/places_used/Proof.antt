@@ -1,6 +1,5 @@
 -- `map::place::places_used` meets its contract.
 -- Assumes nothing.
-use native.Mathlib.Omega.{arith}
 use borrow.Author.Needs.{needs}
 use Rattle.map.proofs.place.places_used.Statement.{statement}
 use Rattle.map.proofs.place.places_used.Tie as tie

@@ -6,9 +6,11 @@ use Prim.Native.Nat.{_+_, _-_, _≤_}
 use native.Mathlib.Omega.{arith}
 use lib.ListN.{length, getD, take, drop}
 use borrow.Author.Needs.{needs}
-use Rattle.map.specs.Sound.{every, everyPair, pairSound}
-use Rattle.map.proofs.Flags.{refused, passed}
-use Rattle.map.proofs.Walk.{blank, left-next, left-none}
+use Rattle.laws.specs.Each.{every}
+use Rattle.map.specs.Sound.{everyPair, pairSound}
+use Rattle.laws.proofs.Tests.{refused, passed}
+use Rattle.map.specs.Made.{blank}
+use Rattle.map.proofs.Walk.{left-next, left-none}
 use Rattle.map.proofs.sound.pairs_sound.Statement.{statement}
 use Rattle.map.proofs.sound.pairs_sound.Tie as tie
 

@@ -2,7 +2,7 @@
 use borrow.Author.Tests.{eq-eqb, ne-eqb}
 use borrow.Author.Needs.{needs}
 use Rattle.map.specs.Wider.{covers}
-use Rattle.map.proofs.Flags.{refused, passed}
+use Rattle.laws.proofs.Tests.{refused, passed}
 use Rattle.map.proofs.wider.does_cover.Statement.{statement}
 use Rattle.map.proofs.wider.does_cover.Tie as tie
 

@@ -5,7 +5,7 @@ use native.Mathlib.Omega.{arith}
 use lib.ListN.{length, take, drop}
 use borrow.Author.Needs.{needs}
 use Rattle.map.specs.Wider.{covered}
-use Rattle.map.proofs.Walk.{left-next, left-none}
+use Rattle.map.proofs.Walk.{left-eight, left-none}
 use Rattle.map.proofs.wider.is_covered.Statement.{statement}
 use Rattle.map.proofs.wider.is_covered.Tie as tie
 
@@ -14,9 +14,6 @@ Inv-loop count narrow areas i₀ i = covered (take count areas) narrow ≡ cover
 
 abbrev μ-loop : tie.MeasureT-loop
 μ-loop count narrow areas i₀ i = count - i
-
-room : (s : tie.Start Inv-loop μ-loop) → s .args .count ≤ length (s .args .t1)
-room s = let h : length (s .args .t1) ≡ 8 = s .good .0 .1 .0 .1 in omega arith
 
 loop-holds : tie.Need-loop-holds Inv-loop μ-loop
 loop-holds c = search needs
@@ -35,7 +32,7 @@ unfolding covered
 returns c =
     rw (
       c .before .before .before .before .loop .inv,
-      left-next _ _ _ (room (c .before .before .before .before .before)) (c .before .before .before .loop-test .taken),
+      left-eight _ _ _ (c .before .before .before .before .before .good .0 .1 .0 .1) (omega arith) (c .before .before .before .loop-test .taken),
       sym (c .before .does-cover .ensures) ∙ c .if1 .taken,
     )
 
@@ -50,7 +47,7 @@ unfolding covered
 loop-again c =
     rw (
       c .before .before .before .before .loop .inv,
-      left-next _ _ _ (room (c .before .before .before .before .before)) (c .before .before .before .loop-test .taken),
+      left-eight _ _ _ (c .before .before .before .before .before .good .0 .1 .0 .1) (omega arith) (c .before .before .before .loop-test .taken),
       sym (c .before .does-cover .ensures) ∙ c .if1 .left,
     )
 

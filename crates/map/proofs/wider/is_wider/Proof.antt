@@ -5,7 +5,7 @@ use borrow.Author.Tests.{eq-eqb, ne-eqb}
 use borrow.Author.Needs.{needs}
 use Rattle.map.specs.Sound.{sound}
 use Rattle.map.specs.Wider.{wider}
-use Rattle.map.proofs.Flags.{refused, passed}
+use Rattle.laws.proofs.Tests.{refused, passed}
 use Rattle.map.proofs.Soundness.{sound-facts}
 use Rattle.map.proofs.wider.is_wider.Statement.{statement}
 use Rattle.map.proofs.wider.is_wider.Tie as tie
@@ -38,8 +38,8 @@ returns-3 c =
     let s = c .before .before .before in
     rw (wide-sound (s .before .before), narrow-sound s, ne-eqb _ _ (c .if3 .taken))
 
-keeps-services-requires : tie.Need-keeps-services-requires
-keeps-services-requires c κs = search needs
+keeps-flags-requires : tie.Need-keeps-flags-requires
+keeps-flags-requires c κs = search needs
 
 returns-4 : tie.Need-returns-4
 unfolding wider
@@ -50,7 +50,7 @@ returns-4 c =
       wide-sound (s .before .before),
       narrow-sound s,
       eq-eqb _ _ (e .if3 .left),
-      refused (c .before .keeps-services .ensures) (c .if4 .taken),
+      refused (c .before .keeps-flags .ensures) (c .if4 .taken),
     )
 
 cast-are-covered : tie.Need-cast-are-covered
@@ -74,7 +74,7 @@ returns-5 c =
       wide-sound (s .before .before),
       narrow-sound s,
       eq-eqb _ _ (e .if3 .left),
-      passed (k .before .keeps-services .ensures) (k .if4 .left),
+      passed (k .before .keeps-flags .ensures) (k .if4 .left),
     )
     (c .are-covered .ensures)
 
@@ -87,7 +87,7 @@ is-wider-spec =
     is-sound-requires-2
     returns-2
     returns-3
-    keeps-services-requires
+    keeps-flags-requires
     returns-4
     cast-are-covered
     cast-are-covered-2

@@ -1,7 +1,7 @@
 -- `wider::keeps_rights` meets its contract, flag by flag.
 use borrow.Author.Needs.{needs}
 use Rattle.map.specs.Wider.{keepsRights}
-use Rattle.map.proofs.Flags.{refused, passed}
+use Rattle.laws.proofs.Tests.{refused, passed}
 use Rattle.map.proofs.wider.keeps_rights.Statement.{statement}
 use Rattle.map.proofs.wider.keeps_rights.Tie as tie
 

@@ -2,7 +2,7 @@
 -- Assumes nothing.
 use borrow.Author.Tests.{eq-eqb, ne-eqb}
 use Rattle.tc.specs.Reader.{firstFault}
-use Rattle.checks.specs.Table.{firstFrom}
+use Rattle.laws.specs.First.{firstFrom}
 use Rattle.tc.proofs.reader.first_fault.Statement.{statement}
 use Rattle.tc.proofs.reader.first_fault.Tie as tie
 

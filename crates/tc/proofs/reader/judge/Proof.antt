@@ -9,7 +9,9 @@ use borrow.Author.Tests.{not-true, not-false, eq-eqb, ne-eqb}
 use borrow.Author.Needs.{needs}
 use Rattle.tc.proofs.Judged.{judged-short, judged-length, judged-control, judged-header, judged-accepted}
 use Rattle.tc.specs.Reader.{lengthRight, controlRight, headerFault}
-use Rattle.checks.specs.declared.Verdict.the-variants.{Length, Control, Header}
+use Rattle.checks.specs.declared.Check.the-variants.{Length, Control, Header}
+use Rattle.checks.specs.declared.Verdict.the-variants.{Refused}
+use Rattle.checks.specs.Verdict.{refusal}
 use Rattle.octets.specs.Numbers.{word16}
 use Rattle.tc.proofs.reader.judge.Statement.{statement}
 use Rattle.tc.proofs.reader.judge.Tie as tie
@@ -31,8 +33,11 @@ control-passed : (c : tie.Else3) → controlRight (now (c .before .before .befor
 unfolding controlRight
 control-passed c = eq-eqb _ _ (sym (received (c .before)) ∙ c .if3 .left ∙ c .before .before .before .control .ensures)
 
+refuse-requires : tie.Need-refuse-requires
+refuse-requires c κs = search needs
+
 returns : tie.Need-returns
-returns c = sym (judged-short _ (c .if1 .taken))
+returns c = c .refuse .ensures ∙ sym (judged-short _ (c .before .if1 .taken))
 
 length-right-requires : tie.Need-length-right-requires
 length-right-requires c κs = search needs
@@ -40,11 +45,16 @@ length-right-requires c κs = search needs
 capped-requires : tie.Need-capped-requires
 capped-requires c κs = search needs
 
+refuse-requires-2 : tie.Need-refuse-requires-2
+refuse-requires-2 c κs = search needs
+
 returns-2 : tie.Need-returns-2
 returns-2 c =
-    let p = now (c .before .before .before .before .before .args .p) in
-    ap Length (c .capped .ensures)
-    ∙ sym (judged-length p (c .before .before .before .if1 .left) (sym (c .before .before .length-right .ensures) ∙ not-true _ (c .before .if2 .taken)))
+    let k = c .before in
+    let p = now (k .before .before .before .before .before .args .p) in
+    c .refuse2 .ensures
+    ∙ ap (λ (n : ℕ). Refused (refusal Length n)) (k .capped .ensures)
+    ∙ sym (judged-length p (k .before .before .before .if1 .left) (sym (k .before .before .length-right .ensures) ∙ not-true _ (k .before .if2 .taken)))
 
 control-requires : tie.Need-control-requires
 control-requires c κs = search needs
@@ -55,24 +65,34 @@ control-at-requires c κs = search needs
 word16-at-requires : tie.Need-word16-at-requires
 word16-at-requires c κs = search needs
 
+refuse-requires-3 : tie.Need-refuse-requires-3
+refuse-requires-3 c κs = search needs
+
 returns-3 : tie.Need-returns-3
 returns-3 c =
-    let e = c .before .before .before .before in
+    let t = c .before in
+    let e = t .before .before .before .before in
     let p = now (e .before .before .before .before .args .p) in
-    ap Control (c .before .before .before .control .ensures)
-    ∙ sym (judged-control p (e .before .before .if1 .left) (length-passed e) (control-failed c))
+    c .refuse3 .ensures
+    ∙ ap (λ (n : ℕ). Refused (refusal Control n)) (t .before .before .before .control .ensures)
+    ∙ sym (judged-control p (e .before .before .if1 .left) (length-passed e) (control-failed t))
 
 header-fault-requires : tie.Need-header-fault-requires
 header-fault-requires c κs = search needs
 
+refuse-requires-4 : tie.Need-refuse-requires-4
+refuse-requires-4 c κs = search needs
+
 returns-4 : tie.Need-returns-4
 returns-4 c =
-    let e = c .before .before in
+    let t = c .before in
+    let e = t .before .before in
     let k = e .before .before .before .before in
     let p = now (k .before .before .before .before .args .p) in
-    ap Header (c .before .header-fault .ensures)
+    c .refuse4 .ensures
+    ∙ ap (λ (n : ℕ). Refused (refusal Header n)) (t .before .header-fault .ensures)
     ∙ sym (judged-header p (k .before .before .if1 .left) (length-passed k) (control-passed e)
-    (ne-eqb (headerFault p) 0 (λ z. c .if4 .taken (c .before .header-fault .ensures ∙ z))))
+    (ne-eqb (headerFault p) 0 (λ z. t .if4 .taken (t .before .header-fault .ensures ∙ z))))
 
 returns-5 : tie.Need-returns-5
 returns-5 c =
@@ -86,14 +106,18 @@ pub judge-spec : {M : Type 1} → statement M
 judge-spec =
     tie.close
     (tie.spec
+    refuse-requires
     returns
     length-right-requires
     capped-requires
+    refuse-requires-2
     returns-2
     control-requires
     control-at-requires
     word16-at-requires
+    refuse-requires-3
     returns-3
     header-fault-requires
+    refuse-requires-4
     returns-4
     returns-5)

@@ -4,9 +4,9 @@ use mathlib.Core.List.{[], _∷_}
 use mathlib.Core.Path.{_≡_, ap, _∙_}
 use Prim.Native.Nat.{ℕ, _+_, _-_, _/_, _%_}
 use native.Mathlib.Omega.{arith}
-use borrow.Author.Needs.{needs}
 use Rattle.octets.specs.Fields.{idOf, headerOf, apidOf}
-use Rattle.tc.specs.Layout.{headOf}
+use Rattle.tc.specs.Layout.{category, around, headOf}
+use borrow.Author.Needs.{needs}
 use Rattle.tc.proofs.writer.head.Statement.{statement}
 use Rattle.tc.proofs.writer.head.Tie as tie
 
@@ -22,6 +22,9 @@ join-id-requires c κs = search needs
 join-sequence-requires : tie.Need-join-sequence-requires
 join-sequence-requires c κs = search needs
 
+cast-length : tie.Need-cast-length
+cast-length c = search needs
+
 add-length : tie.Need-add-length
 add-length c = search needs
 
@@ -34,8 +37,8 @@ cast-t8 c = search needs
 join-header-requires : tie.Need-join-header-requires
 join-header-requires c κs = search needs
 
-cast-t12 : tie.Need-cast-t12
-cast-t12 c = search needs
+cast-t13 : tie.Need-cast-t13
+cast-t13 c = search needs
 
 cast-t14 : tie.Need-cast-t14
 cast-t14 c = search needs
@@ -60,10 +63,10 @@ unfolding headOf
 returns c =
     let s = c .before .before .before .before .before .before .args in
     let k = c .before .before .before in
-    let id : k .join-id .result ≡ idOf (record { version = 0; kind = 1; header = 1; apid = apidOf (s .order .pid) 12 }) =
+    let id : k .join-id .result ≡ idOf (record { version = 0; kind = 1; header = 1; apid = apidOf (s .order .pid) category }) =
     k .join-id .ensures ∙ ap (λ (apid : ℕ). idOf (record { version = 0; kind = 1; header = 1; apid = apid })) (k .before .join-apid .ensures) in
     let first : c .join-header .result % 256 ≡ headerOf (record { version = 0; checksum = 1; ack = s .order .ack }) = omega (arith, c .join-header .ensures) in
-    let n : ℕ = s .octets + 12 - 7 in
+    let n : ℕ = s .octets + around - 7 in
     λ i.
     id i / 256
     ∷ id i % 256
@@ -85,11 +88,12 @@ head-spec =
     join-apid-requires
     join-id-requires
     join-sequence-requires
+    cast-length
     add-length
     sub-length
     cast-t8
     join-header-requires
-    cast-t12
+    cast-t13
     cast-t14
     cast-t16
     cast-t18

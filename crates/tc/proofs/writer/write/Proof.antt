@@ -35,7 +35,7 @@ returns c =
     let w = c .before .before .before .before .before in
     let e : isPacket (writtenOf (s .order) (length (now (s .application))) (length (now (s .buffer)))) ≡ true =
     ap isPacket (sym (w .before .judge .ensures)) ∙ sym (w .wrote .ensures) ∙ c .before .before .before .before .if1 .taken in
-    (w .before .judge .ensures, rw e (c .before .before .lay .ensures))
+    record { answer-is = w .before .judge .ensures; buffer-is = rw e (c .before .before .lay .ensures) }
 
 returns-2 : tie.Need-returns-2
 unfolding bufferAfter
@@ -44,7 +44,7 @@ returns-2 c =
     let w = c .before in
     let e : isPacket (writtenOf (s .order) (length (now (s .application))) (length (now (s .buffer)))) ≡ false =
     ap isPacket (sym (w .before .judge .ensures)) ∙ sym (w .wrote .ensures) ∙ c .if1 .left in
-    (w .before .judge .ensures, rw e)
+    record { answer-is = w .before .judge .ensures; buffer-is = rw e }
 
 pub write-spec : {M : Type 1} → statement M
 write-spec =

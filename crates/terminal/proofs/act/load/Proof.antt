@@ -1,35 +1,38 @@
 -- `terminal::act::load` meets its contract. The loop's invariant: writing the blocks that are left into the store as it is gives what writing all of them into the store as it was does.
 -- Assumes nothing.
 use mathlib.Core.List.{List}
-use mathlib.Core.Path.{_≡_, sym, ap, ap₂, _∙_}
-use Prim.Native.Nat.{ℕ, _+_, _-_, _≤_}
+use mathlib.Core.Path.{_≡_, refl, sym, ap, ap₂, _∙_}
+use Prim.Native.Nat.{ℕ, _+_, _-_}
+use native.Mathlib.Omega.{arith}
 use lib.ListN.{length}
 use denote.Ref.{now}
 use borrow.Author.Needs.{needs}
-use Rattle.terminal.proofs.Walks.{left-all, loaded-none, loaded-step}
-use Rattle.terminal.specs.Outcome.{loaded}
-use Rattle.blocks.specs.Blocks.{blocksFrom}
 use Rattle.blocks.specs.declared.Block.{Block}
-use Rattle.blocks.specs.declared.Action.the-variants.{Load}
+use Rattle.blocks.specs.Blocks.{blockCount, blocksOf}
+use Rattle.blocks.proofs.Walk.{left, left-all}
+use Rattle.decide.specs.declared.Action.the-variants.{Load}
+use Rattle.decide.specs.Request.{carriedBy}
+use Rattle.terminal.specs.Done.{loaded}
+use Rattle.terminal.proofs.Walks.{loaded-none, loaded-step}
 use Rattle.terminal.proofs.act.load.Statement.{statement}
 use Rattle.terminal.proofs.act.load.Tie as tie
 
 abbrev Inv-loop : tie.InvT-loop
 Inv-loop area application store₀ count place₀ i₀ store place i =
-    (i ≤ count)
-    × (length store ≡ length store₀)
-    × (loaded area application (blocksFrom Load application (count - i) place) store ≡ loaded area application (blocksFrom Load application count 2) store₀)
+    (length store ≡ length store₀)
+    × (loaded area application (left (carriedBy Load) application (blockCount application) i place) store
+    ≡ loaded area application (blocksOf (carriedBy Load) application) store₀)
 
 abbrev μ-loop : tie.MeasureT-loop
 μ-loop area application store₀ count place₀ i₀ store place i = count - i
 
-octet-of-requires : tie.Need-octet-of-requires Inv-loop μ-loop
-octet-of-requires c κs = search needs
+block-count-requires : tie.Need-block-count-requires Inv-loop μ-loop
+block-count-requires c κs = search needs
 
 loop-holds : tie.Need-loop-holds Inv-loop μ-loop
 loop-holds c =
     let a = c .before .before .before .args in
-    (search needs, search needs, ap (λ (bs : List Block). loaded (a .area) (now (a .application)) bs (now (a .store))) (left-all Load (now (a .application)) (c .octet-of .result)))
+    (refl, ap (λ (bs : List Block). loaded (a .area) (now (a .application)) bs (now (a .store))) (left-all _ _ _))
 
 load-block-requires : tie.Need-load-block-requires Inv-loop μ-loop
 load-block-requires c κs = search needs
@@ -42,16 +45,14 @@ loop-less c = search needs
 
 loop-again : tie.Need-loop-again Inv-loop μ-loop
 loop-again c =
-    let l = c .before .before .before .before .before .loop in
-    let a = c .before .before .before .before .before .before .before .before .before .args in
-    let n : ℕ = c .before .before .before .before .before .before .octet-of .result in
+    let l = c .before .before .before .before .before in
+    let a = l .before .before .before .before .args in
     let d : List ℕ = now (a .application) in
-    let step = c .before .before .load-block in (
+    let step = c .before .before .load-block .ensures in (
       search needs,
-      search needs,
-      ap₂ (λ (place : ℕ) (store : List ℕ). loaded (a .area) d (blocksFrom Load d (n - (l .i + 1)) place) store) (step .ensures .0) (step .ensures .1)
-          ∙ sym (loaded-step (a .area) d n (l .i) (l .place) (l .store) (c .before .before .before .before .loop-test .taken))
-          ∙ l .inv .2,
+      ap₂ (λ (place : ℕ) (store : List ℕ). loaded (a .area) d (left (carriedBy Load) d (blockCount d) (l .loop .i + 1) place) store) (step .next-is) (step .store-is)
+          ∙ sym (loaded-step (carriedBy Load) d (blockCount d) (a .area) (l .loop .i) (l .loop .place) (l .loop .store) (omega (arith, c .before .before .before .before .loop-test .taken, l .before .block-count .ensures)))
+          ∙ l .loop .inv .1,
     )
 
 same-length : tie.Need-same-length Inv-loop μ-loop
@@ -59,12 +60,11 @@ same-length c = search needs
 
 returns : tie.Need-returns Inv-loop μ-loop
 returns c =
-    let l = c .before .loop in
-    let a = c .before .before .before .before .before .args in
+    let l = c .before in
+    let a = l .before .before .before .before .args in
     let d : List ℕ = now (a .application) in
-    sym (loaded-none (a .area) d (c .before .before .octet-of .result) (l .i) (l .place) (l .store) (c .loop-test .left))
-    ∙ l .inv .2
-    ∙ ap (λ (n : ℕ). loaded (a .area) d (blocksFrom Load d n 2) (now (a .store))) (c .before .before .octet-of .ensures)
+    sym (loaded-none (carriedBy Load) d (blockCount d) (a .area) (l .loop .i) (l .loop .place) (l .loop .store) (omega (arith, c .loop-test .left, l .before .block-count .ensures)))
+    ∙ l .loop .inv .1
 
 pub load-spec : {M : Type 1} → statement M
 load-spec =
@@ -72,7 +72,7 @@ load-spec =
     (tie.spec
     Inv-loop
     μ-loop
-    octet-of-requires
+    block-count-requires
     loop-holds
     load-block-requires
     add-i

@@ -1,17 +1,11 @@
 -- `terminal::act::report_connection` meets its contract.
 -- Assumes nothing.
-use mathlib.Core.List.{[]}
-use mathlib.Core.Path.{_≡_, ap, _∙_}
+use mathlib.Core.Path.{refl}
+use Prim.Native.Nat.{_≤_}
 use native.Mathlib.Omega.{arith}
-use lib.ListN.{length}
-use denote.Ref.{now}
 use borrow.Author.Needs.{needs}
-use Rattle.terminal.proofs.Steps.{did-one}
-use Rattle.terminal.specs.Reports.{stamped, connected}
-use Rattle.tm.proofs.Frame.{frame-length}
-use Rattle.tm.specs.Frame.{frameOf}
-use Rattle.tm.specs.declared.Stamp.{Stamp}
-use Rattle.octets.specs.Copy.{laid}
+use Rattle.tm.specs.Frame.{frameHead}
+use Rattle.terminal.proofs.Steps.{frame-octets, did-frame}
 use Rattle.terminal.proofs.act.report_connection.Statement.{statement}
 use Rattle.terminal.proofs.act.report_connection.Tie as tie
 
@@ -24,11 +18,10 @@ slice-aggregate-put-frame c = search needs
 put-frame-requires : tie.Need-put-frame-requires
 put-frame-requires c κs = search needs
 
--- the frame is sixteen octets long
-octets : (c : tie.After-put-frame) → c .put-frame .result ≡ 16
+octets : (c : tie.After-put-frame) → c .put-frame .result ≤ frameHead
 octets c =
-    let stamp = c .before .before .before .stamp in
-    c .put-frame .ensures .0 ∙ frame-length (stamp .result) [] (stamp .ensures .1)
+    let size = frame-octets _ _ (c .before .before .before .stamp .ensures) (c .put-frame .ensures) in
+    omega arith
 
 advance-requires : tie.Need-advance-requires
 advance-requires c κs = omega (arith, octets (c .before .before))
@@ -37,17 +30,9 @@ same-length : tie.Need-same-length
 same-length c = search needs
 
 returns : tie.Need-returns
-unfolding stamped
 returns c =
-    let s = c .before .before .before .before .before .before .before .before .args in
     let put = c .before .before .before in
-    let stamp = put .before .before .before .stamp in
-    did-one (s .sender) 4032 (s .p) (c .advance .result) (now (s .out)) (put .put-frame .last .0) connected (put .put-frame .result)
-    (put .put-frame .ensures .0 ∙ ap (λ (a : Stamp). length (frameOf a [])) (stamp .ensures .0))
-    (c .advance .ensures .0)
-    (c .advance .ensures .1)
-    (put .put-frame .ensures .1 ∙ ap (λ (a : Stamp). laid (now (s .out)) (s .p .at) (frameOf a [])) (stamp .ensures .0))
-    (omega (arith, octets put))
+    did-frame _ _ _ _ _ _ _ _ _ (put .before .before .before .stamp .ensures) refl (put .put-frame .ensures) (c .advance .ensures) (omega (arith, octets put))
 
 pub report-connection-spec : {M : Type 1} → statement M
 report-connection-spec =

@@ -1,0 +1,145 @@
+-- The rows of what is asked, check by check: each refusal where its row is the first that fails, and acceptance where none does.
+-- Assumes nothing.
+use mathlib.Core.Path.{_≡_, refl, sym, ap, _∙_}
+use mathlib.Core.Bool.{true, false}
+use mathlib.Core.List.{List, [], _∷_}
+use Prim.Native.Nat.{ℕ, _+_, _*_}
+use lib.Dec.{eqb}
+use borrow.Author.Tests.{eq-eqb, ne-eqb}
+use Rattle.octets.specs.declared.copy.Span.{Span}
+use Rattle.octets.specs.Fields.{apidOf}
+use Rattle.checks.specs.declared.Check.the-variants.{Apid, Service, Subtype, Form, Memory, Right, Outside}
+use Rattle.checks.specs.Table.{answer}
+use Rattle.checks.specs.Verdict.{row}
+use Rattle.tc.specs.declared.Fields.{Fields}
+use Rattle.tc.specs.Layout.{category}
+use Rattle.map.specs.declared.Area.{Area}
+use Rattle.map.specs.declared.Profile.{Profile}
+use Rattle.map.specs.declared.Found.{Found}
+use Rattle.map.specs.declared.Found.the-variants.{At, Nothing}
+use Rattle.blocks.specs.declared.Form.{Form as Shape}
+use Rattle.blocks.specs.declared.Form.the-variants.{Right as WellFormed, Wrong}
+use Rattle.blocks.specs.Blocks.{memoryId, blocksOf}
+use Rattle.blocks.specs.Form.{headRight, formOf, isRight, formDetail}
+use Rattle.decide.specs.declared.Action.{Action}
+use Rattle.decide.specs.declared.Asked.{Asked}
+use Rattle.decide.specs.declared.Task.{Task}
+use Rattle.decide.specs.declared.Decision.{Decision}
+use Rattle.decide.specs.Request.{serves, offers, rightFor, carriedBy, mostWords, areaNamed, isFound, outsideOf}
+use Rattle.decide.specs.Decision.{acceptedWith, decidedBy}
+use Rattle.decide.specs.Table.{hasRight, outsideNumber, allInside, areaRows, memoryRows, memoryTask, askedBy, serviceRows, requestRows, areaDecision, memoryDecision, serviceDecision, requestDecision}
+use Rattle.decide.proofs.Checked.{failing, refuses, passes}
+
+module _ (action : Action) (ack : ℕ) («data» : Span) (d : List ℕ) where
+  -- ---- 18 and 19, on an area
+
+  module _ (a : Area) where
+    abbrev on : Decision
+    on = acceptedWith (memoryTask (At a) action) ack «data»
+
+    abbrev outside : ℕ
+    outside = outsideOf a (blocksOf (carriedBy action) d)
+
+    pub area-right : rightFor (a .rights) action ≡ false → areaDecision a action ack «data» d ≡ failing Right (memoryId d)
+    unfolding areaRows
+    area-right wrong = refuses on Right (memoryId d) (rightFor (a .rights) action) (row Outside outside (eqb outside 0) ∷ []) wrong
+
+    module _ (right : rightFor (a .rights) action ≡ true) where
+      pub area-outside : (k : ℕ) → k ≡ outside → (k ≡ 0 → ⊥) → failing Outside k ≡ areaDecision a action ack «data» d
+      unfolding areaRows
+      area-outside k number some =
+          ap (failing Outside) number
+          ∙ sym
+          (passes on Right (memoryId d) (rightFor (a .rights) action) (row Outside outside (eqb outside 0) ∷ []) right
+          ∙ refuses on Outside outside (eqb outside 0) [] (ne-eqb outside 0 (λ e. some (number ∙ e))))
+
+      pub area-accepts : outside ≡ 0 → areaDecision a action ack «data» d ≡ on
+      unfolding areaRows answer
+      area-accepts none =
+          passes on Right (memoryId d) (rightFor (a .rights) action) (row Outside outside (eqb outside 0) ∷ []) right
+          ∙ passes on Outside outside (eqb outside 0) [] (eq-eqb outside 0 none)
+
+  -- ---- 5 and 17
+
+  module _ (p : Profile) where
+    abbrev fine : Decision
+    fine = acceptedWith (memoryTask (areaNamed p d) action) ack «data»
+
+    abbrev shape : Shape
+    shape = formOf (carriedBy action) (mostWords action) d
+
+    pub memory-head : headRight d ≡ false → memoryDecision p action ack «data» d ≡ failing Form 0
+    unfolding memoryRows
+    memory-head wrong =
+        refuses fine Form 0 (headRight d)
+        (row Form (formDetail shape) (isRight shape) ∷ row Memory (memoryId d) (isFound (areaNamed p d)) ∷ areaRows (areaNamed p d) action d) wrong
+
+    module _ (head : headRight d ≡ true) where
+      headed : memoryDecision p action ack «data» d
+          ≡ decidedBy fine (row Form (formDetail shape) (isRight shape) ∷ row Memory (memoryId d) (isFound (areaNamed p d)) ∷ areaRows (areaNamed p d) action d)
+      unfolding memoryRows
+      headed =
+          passes fine Form 0 (headRight d)
+          (row Form (formDetail shape) (isRight shape) ∷ row Memory (memoryId d) (isFound (areaNamed p d)) ∷ areaRows (areaNamed p d) action d) head
+
+      pub memory-form : (k : ℕ) → shape ≡ Wrong k → memoryDecision p action ack «data» d ≡ failing Form k
+      memory-form k wrong =
+          headed
+          ∙ refuses fine Form (formDetail shape) (isRight shape) (row Memory (memoryId d) (isFound (areaNamed p d)) ∷ areaRows (areaNamed p d) action d) (ap isRight wrong)
+          ∙ ap (λ (f : Shape). failing Form (formDetail f)) wrong
+
+      module _ (formed : shape ≡ WellFormed) where
+        shaped : memoryDecision p action ack «data» d
+            ≡ decidedBy fine (row Memory (memoryId d) (isFound (areaNamed p d)) ∷ areaRows (areaNamed p d) action d)
+        shaped =
+            headed
+            ∙ passes fine Form (formDetail shape) (isRight shape) (row Memory (memoryId d) (isFound (areaNamed p d)) ∷ areaRows (areaNamed p d) action d) (ap isRight formed)
+
+        pub memory-none : areaNamed p d ≡ Nothing → memoryDecision p action ack «data» d ≡ failing Memory (memoryId d)
+        memory-none none =
+            shaped ∙ refuses fine Memory (memoryId d) (isFound (areaNamed p d)) (areaRows (areaNamed p d) action d) (ap isFound none)
+
+        pub memory-area : (a : Area) → areaNamed p d ≡ At a → memoryDecision p action ack «data» d ≡ areaDecision a action ack «data» d
+        memory-area a named =
+            shaped
+            ∙ passes fine Memory (memoryId d) (isFound (areaNamed p d)) (areaRows (areaNamed p d) action d) (ap isFound named)
+            ∙ ap (λ (f : Found). decidedBy (acceptedWith (memoryTask f action) ack «data») (areaRows f action d)) named
+
+-- ---- 0, 3 and 4
+
+module _ (p : Profile) (f : Fields) («data» : Span) (d : List ℕ) where
+  abbrev given : Decision
+  given = acceptedWith (Rattle.decide.specs.Table.taskFor p (askedBy f) d) (f .ack) «data»
+
+  abbrev pairOf : ℕ
+  pairOf = f .kind * 256 + f .subtype
+
+  pub request-apid : (f .apid ≡ apidOf (p .pid) category → ⊥) → requestDecision p f «data» d ≡ failing Apid (f .apid)
+  unfolding requestRows
+  request-apid other =
+      refuses given Apid (f .apid) (eqb (f .apid) (apidOf (p .pid) category))
+      (row Service (f .kind) (serves (p .flags) (f .kind)) ∷ row Subtype pairOf (offers (p .flags) (askedBy f)) ∷ serviceRows p (askedBy f) d)
+      (ne-eqb _ _ other)
+
+  module _ (same : f .apid ≡ apidOf (p .pid) category) where
+    addressed : requestDecision p f «data» d
+        ≡ decidedBy given (row Service (f .kind) (serves (p .flags) (f .kind)) ∷ row Subtype pairOf (offers (p .flags) (askedBy f)) ∷ serviceRows p (askedBy f) d)
+    unfolding requestRows
+    addressed =
+        passes given Apid (f .apid) (eqb (f .apid) (apidOf (p .pid) category))
+        (row Service (f .kind) (serves (p .flags) (f .kind)) ∷ row Subtype pairOf (offers (p .flags) (askedBy f)) ∷ serviceRows p (askedBy f) d)
+        (eq-eqb _ _ same)
+
+    pub request-service : serves (p .flags) (f .kind) ≡ false → requestDecision p f «data» d ≡ failing Service (f .kind)
+    request-service wrong =
+        addressed ∙ refuses given Service (f .kind) (serves (p .flags) (f .kind)) (row Subtype pairOf (offers (p .flags) (askedBy f)) ∷ serviceRows p (askedBy f) d) wrong
+
+    module _ (served : serves (p .flags) (f .kind) ≡ true) where
+      known : requestDecision p f «data» d ≡ decidedBy given (row Subtype pairOf (offers (p .flags) (askedBy f)) ∷ serviceRows p (askedBy f) d)
+      known = addressed ∙ passes given Service (f .kind) (serves (p .flags) (f .kind)) (row Subtype pairOf (offers (p .flags) (askedBy f)) ∷ serviceRows p (askedBy f) d) served
+
+      pub request-subtype : offers (p .flags) (askedBy f) ≡ false → requestDecision p f «data» d ≡ failing Subtype pairOf
+      request-subtype wrong = known ∙ refuses given Subtype pairOf (offers (p .flags) (askedBy f)) (serviceRows p (askedBy f) d) wrong
+
+      pub request-served : offers (p .flags) (askedBy f) ≡ true → requestDecision p f «data» d ≡ serviceDecision p (askedBy f) (f .ack) «data» d
+      request-served offered = known ∙ passes given Subtype pairOf (offers (p .flags) (askedBy f)) (serviceRows p (askedBy f) d) offered

@@ -1,0 +1,5 @@
+pub mod Tests
+pub mod Order
+pub mod Each
+pub mod First
+pub mod Fold

@@ -1,0 +1,7 @@
+pub mod Parts
+pub mod Cuts
+pub mod Opening
+pub mod Turns
+pub mod Streams
+pub mod Whole
+pub mod Walks

@@ -1,0 +1,41 @@
+-- What each service does for an accepted packet.
+use mathlib.Core.List.{List, [], _∷_, map}
+use Prim.Native.Nat.{ℕ}
+use Rattle.octets.specs.Copy.{laid}
+use Rattle.map.specs.declared.Area.{Area}
+use Rattle.map.specs.Place.{octetAt}
+use Rattle.blocks.specs.declared.Block.{Block}
+use Rattle.blocks.specs.Blocks.{memoryId, blockCount, blocksOf, wordsOf}
+use Rattle.tm.specs.Frame.{Report}
+use Rattle.decide.specs.declared.Action.{Action}
+use Rattle.decide.specs.declared.Action.the-variants.{Load, Dump, Check}
+use Rattle.decide.specs.declared.Task.{Task}
+use Rattle.decide.specs.declared.Task.the-variants.{Idle, Memory, Connection}
+use Rattle.decide.specs.Request.{carriedBy}
+use Rattle.terminal.specs.Reports.{dumped, checked, connected}
+
+-- What was done: the service's reports, and the store afterwards.
+pub record Done : Type 0 where
+  pub reports : List Report
+  pub store : List ℕ
+
+-- Reports alone, and the store as it was.
+abbrev pub reporting : List Report → List ℕ → Done
+reporting reports store = record { reports = reports; store = store }
+
+-- The store with the blocks of a load written in order; where two overlap the later one stays.
+unfoldable pub loaded : Area → List ℕ → List Block → List ℕ → List ℕ
+loaded a d [] store = store
+loaded a d (b ∷ rest) store = loaded a d rest (laid store (octetAt a (b .start)) (wordsOf d b))
+
+-- Service 6 on an area: a load writes and reports nothing, a dump reports each block, a check all of them in one.
+abbrev pub memoryDone : Area → Action → List ℕ → List ℕ → Done
+memoryDone a Load d store = record { reports = []; store = loaded a d (blocksOf (carriedBy Load) d) store }
+memoryDone a Dump d store = reporting (map (dumped a (memoryId d) store) (blocksOf (carriedBy Dump) d)) store
+memoryDone a Check d store = reporting (checked a (memoryId d) store (blocksOf (carriedBy Check) d) (blockCount d) ∷ []) store
+
+-- What a task does, with the packet's application data.
+abbrev pub done : Task → List ℕ → List ℕ → Done
+done Idle d store = reporting [] store
+done (Memory job) d store = memoryDone (job .area) (job .action) d store
+done Connection d store = reporting (connected ∷ []) store
