@@ -1,171 +1,220 @@
 // The program `cases`: the terminal, the reader, the writer and the CRC over lines of text, one command a line.
-use commands::line;
-use commands::line::OCTETS_MOST;
-use commands::line::Octets;
+use commands::form::GIVEN_MOST;
+use commands::form::LINE_MOST;
 use commands::session;
 use commands::session::OUT_ROOM;
-use commands::session::Out;
 use commands::session::STORE_ROOM;
 use commands::session::Session;
-use commands::session::Store;
-use commands::text;
-use commands::text::Buffer;
-use commands::text::TEXT_ROOM;
 use console::Got;
 use lines::Cut;
-ghost use Prim.Native.Nat.{_≤_};
-ghost use lib.ListN.{length};
+use lines::End;
+use lines::Walk;
+use replies::Octets;
+use showing::Served;
 
-// What one read fills, and how much text waits at the most while lines are served.
-const INPUT_ROOM: usize = 65536;
+// What holds the input that is not answered yet: more than the longest line and its newline.
+const INPUT_ROOM: usize = 262144;
 
 type Input = [u8; INPUT_ROOM];
 
-// Whether to go on, and the session.
+// The most text that one line is answered, and what holds the text that waits.
+const ANSWER_ROOM: usize = 163840;
+
+const TEXT_ROOM: usize = 327680;
+
+type Text = [u8; TEXT_ROOM];
+
+// Whether to go on, the session, how much input waits, and whether that begins a line.
 struct Next {
     on: bool,
-    s: Session,
+    session: Session,
+    have: usize,
+    begins: bool,
+}
+
+// Whether to go on, the session, and how far the walk over the input has come.
+struct Walked {
+    on: bool,
+    session: Session,
+    walk: Walk,
+}
+
+// Whether to go on, and where the next text goes.
+struct Written {
+    on: bool,
+    at: usize,
 }
 
 fn main() {
     let mut input = [0u8; INPUT_ROOM];
-    let mut octets = [0u8; OCTETS_MOST];
+    let mut octets = [0u8; GIVEN_MOST];
     let mut store = [0u8; STORE_ROOM];
     let mut out = [0u8; OUT_ROOM];
-    let mut buffer = [0u8; TEXT_ROOM];
-    run(&mut input, &mut octets, &mut store, &mut out, &mut buffer);
+    let mut text = [0u8; TEXT_ROOM];
+    run(&mut input, &mut octets, &mut store, &mut out, &mut text);
 }
 
 // Serves the input to its end. A proved loop has to end, and nothing says that an input does: the turns are counted down from a number that no run uses up.
-fn run(
-    input: &mut Input,
-    octets: &mut Octets,
-    store: &mut Store,
-    out: &mut Out,
-    buffer: &mut Buffer,
-) {
+fn run(input: &mut Input, octets: &mut Octets, store: &mut [u8], out: &mut [u8], text: &mut Text) {
     let mut turns = u64::MAX;
     let mut t = Next {
         on: true,
-        s: session::start(),
+        session: session::start(hexline::profile()),
+        have: 0,
+        begins: true,
     };
     while turns > 0 && t.on {
-        let s = t.s;
-        t = turn(s, input, octets, store, out, buffer);
+        t = turn(t, input, octets, store, out, text);
         turns -= 1;
     }
 }
 
-// Writes out the text that waits, reads once, and serves what came.
+// Reads once, and serves what came.
 fn turn(
-    s: Session,
+    t: Next,
     input: &mut Input,
     octets: &mut Octets,
-    store: &mut Store,
-    out: &mut Out,
-    buffer: &mut Buffer,
+    store: &mut [u8],
+    out: &mut [u8],
+    text: &mut Text,
 ) -> Next {
-    let t = written(s, buffer);
-    if !t.on {
-        return t;
-    }
-    let next = t.s;
-    match console::read(b"cases", input, 0) {
-        Got::More(n) => feed(
-            next,
-            octets::copy::part(input, 0, n),
-            octets,
-            store,
-            out,
-            buffer,
-        ),
-        Got::End => end(next, octets, store, out, buffer),
-        Got::Failed => Next { on: false, s: next },
+    match console::read(b"cases", input, t.have) {
+        Got::More(have) => feed(t, have, input, octets, store, out, text),
+        Got::End => end(t, input, octets, store, out, text),
+        Got::Failed => stopped(t),
     }
 }
 
-// Writes out the text that waits; text that found no room is a failure.
-fn written(s: Session, buffer: &Buffer) -> Next {
-    let t = s.text;
-    let on = console::write(b"cases", octets::copy::part(buffer, 0, t.at));
-    let next = session::with_text(s, text::start());
-    if t.lost {
-        console::fail(b"cases", b": an answer is longer than its buffer\n");
-        return Next { on: false, s: next };
+// No turn follows.
+fn stopped(t: Next) -> Next {
+    let mut last = t;
+    last.on = false;
+    last
+}
+
+// Serves each line that ends in the input, writes out what they are answered, and keeps what is there of the next.
+fn feed(
+    t: Next,
+    have: usize,
+    input: &mut Input,
+    octets: &mut Octets,
+    store: &mut [u8],
+    out: &mut [u8],
+    text: &mut Text,
+) -> Next {
+    let walked = walk(t, lines::front(input, have), octets, store, out, text);
+    let w = walked.walk;
+    let on = walked.on && write_out(text, w.at);
+    let left = lines::carry(input, have, w);
+    let session = walked.session;
+    Next {
+        on,
+        session,
+        have: left.have,
+        begins: left.begins,
     }
-    Next { on, s: next }
+}
+
+// Serves the whole lines of an input, as long as its text can be written. Each piece of a line passes a character, so that there are no more turns than characters.
+fn walk(
+    t: Next,
+    input: &[u8],
+    octets: &mut Octets,
+    store: &mut [u8],
+    out: &mut [u8],
+    text: &mut Text,
+) -> Walked {
+    let first = t.session;
+    let mut walked = Walked {
+        on: true,
+        session: first,
+        walk: Walk {
+            from: 0,
+            begins: t.begins,
+            open: false,
+            at: 0,
+        },
+    };
+    let mut turns = input.len();
+    while turns > 0 && walked.on {
+        let w = walked.walk;
+        let before = walked.session;
+        let Cut::Piece(count, end) = lines::next(input, w.from, LINE_MOST) else {
+            return walked;
+        };
+        let piece = lines::piece(input, w.from, count);
+        let served = serve(before, w.begins, piece, end, octets, store, out, text, w.at);
+        let session = served.session;
+        let written = spared(text, served.at);
+        let passed = lines::passed(input, w, count, end, written.at);
+        walked = Walked {
+            on: written.on,
+            session,
+            walk: passed,
+        };
+        turns -= 1;
+    }
+    walked
+}
+
+// Serves a piece of a line: a line that is one piece, or the end of one that is too long.
+fn serve(
+    s: Session,
+    begins: bool,
+    piece: &[u8],
+    end: End,
+    octets: &mut Octets,
+    store: &mut [u8],
+    out: &mut [u8],
+    text: &mut [u8],
+    at: usize,
+) -> Served {
+    if !lines::ends(end) {
+        return Served { session: s, at };
+    }
+    if begins {
+        return replies::serve(s, piece, octets, store, out, text, at);
+    }
+    let behind = replies::refuse(text, at);
+    Served {
+        session: s,
+        at: behind,
+    }
+}
+
+// Writes out the text if the next answer may find no room behind it.
+fn spared(text: &Text, at: usize) -> Written {
+    if at <= TEXT_ROOM - ANSWER_ROOM {
+        return Written { on: true, at };
+    }
+    let on = write_out(text, at);
+    Written { on, at: 0 }
+}
+
+// Writes out the text up to a place, and answers whether to go on; text that found no room is a failure.
+fn write_out(text: &Text, at: usize) -> bool {
+    let on = console::write(b"cases", lines::front(text, at));
+    if TEXT_ROOM < at {
+        console::fail(b"cases", b": an answer is longer than its buffer\n");
+        return false;
+    }
+    on
 }
 
 // Serves what came of a last line without its newline, and writes out its answer; no turn follows.
-fn end(s: Session, octets: &Octets, store: &mut Store, out: &mut Out, buffer: &mut Buffer) -> Next {
-    let l = s.line;
-    if l.seen == 0 {
-        return Next { on: false, s };
-    }
-    let served = replies::serve(s, octets, store, out, buffer);
-    let last = written(served, buffer);
-    let after = last.s;
-    Next {
-        on: false,
-        s: after,
-    }
-}
-
-// Serves each line that ends in the octets read, and keeps what is there of the next.
-fn feed(
-    s: Session,
-    input: &[u8],
+fn end(
+    t: Next,
+    input: &Input,
     octets: &mut Octets,
-    store: &mut Store,
-    out: &mut Out,
-    buffer: &mut Buffer,
+    store: &mut [u8],
+    out: &mut [u8],
+    text: &mut Text,
 ) -> Next {
-    let mut next = Next { on: true, s };
-    let mut at: usize = 0;
-    while at < input.len() && next.on {
-        let before = next.s;
-        let end = line_end(input, at);
-        next = go_on(before, input, at, end, octets, store, out, buffer);
-        at = end + 1;
-    }
-    next
-}
-
-// Where the line ends that goes on at a place of the input: at its newline, or with the input.
-fn line_end(input: &[u8], at: usize) -> usize
-    requires { ⌜ at ≤ length (now input) ⌝ }
-    ensures { λ r. ⌜ (at ≤ r) × (r ≤ length (now (input .entry))) ⌝ }
-{
-    match lines::next(input, at, input.len()) {
-        Cut::Piece(count, _) => at + count,
-        Cut::More => input.len(),
-    }
-}
-
-// Takes in the characters from a place up to another, and serves the line if a newline stands there.
-fn go_on(
-    s: Session,
-    input: &[u8],
-    at: usize,
-    end: usize,
-    octets: &mut Octets,
-    store: &mut Store,
-    out: &mut Out,
-    buffer: &mut Buffer,
-) -> Next {
-    let l = line::fill(s.line, octets::copy::part(input, at, end), octets);
-    let next = session::with_line(s, l);
-    if end < input.len() {
-        return spared(replies::serve(next, octets, store, out, buffer), buffer);
-    }
-    Next { on: true, s: next }
-}
-
-// Writes out the text if little room may be left for the next answer.
-fn spared(s: Session, buffer: &Buffer) -> Next {
-    let t = s.text;
-    if INPUT_ROOM < t.at {
-        return written(s, buffer);
-    }
-    Next { on: true, s }
+    let rest = lines::front(input, t.have);
+    let Cut::Piece(_, end) = lines::last(rest) else {
+        return stopped(t);
+    };
+    let served = serve(t.session, t.begins, rest, end, octets, store, out, text, 0);
+    write_out(text, served.at);
+    stopped(t)
 }

@@ -1,7 +1,7 @@
 -- Document 01, "one packet a line in hexadecimal, both letter cases": digits, and the text of octets in upper case.
-use mathlib.Core.Bool.{Bool, cond, _&&_}
+use mathlib.Core.Bool.{Bool, true, cond, _&&_}
 use mathlib.Core.List.{List, [], _∷_}
-use Prim.Native.Nat.{ℕ, _+_, _-_, _/_, _%_}
+use Prim.Native.Nat.{ℕ, _+_, _*_, _-_, _/_, _%_}
 use lib.Dec.{leb, ltb}
 
 -- Whether a character lies in a range, its two ends included.
@@ -27,3 +27,14 @@ digitOf x = cond (ltb (x % 16) 10) (0x30 + x % 16) (0x41 + (x % 16 - 10))
 unfoldable pub textOf : List ℕ → List ℕ
 textOf [] = []
 textOf (x ∷ rest) = digitOf (x / 16) ∷ digitOf x ∷ textOf rest
+
+-- Whether every character of a text is a digit.
+unfoldable pub allDigits : List ℕ → Bool
+allDigits [] = true
+allDigits (c ∷ rest) = isDigit c && allDigits rest
+
+-- The octets of a text, two digits each; of what is no digit, the low four bits of its value.
+unfoldable pub octetsIn : List ℕ → List ℕ
+octetsIn [] = []
+octetsIn (high ∷ []) = []
+octetsIn (high ∷ low ∷ rest) = (valueOf high % 16 * 16 + valueOf low % 16) ∷ octetsIn rest

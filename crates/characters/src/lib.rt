@@ -1,7 +1,9 @@
-// Hexadecimal digits.
+// Hexadecimal digits, and the text of octets.
 ghost use mathlib.Core.Path.{_≡_};
 ghost use Rattle.characters.specs.Digits.{valueOf, digitOf};
 ghost use Rattle.characters.specs.Digits.{within as Within};
+
+pub mod text; // text.rt: the text of octets, and the octets of a text
 
 // Whether a character lies in a range, its two ends included.
 fn lies_within(low: u8, high: u8, c: u8) -> bool

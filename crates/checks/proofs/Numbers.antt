@@ -1,15 +1,14 @@
 -- Which numbers the checks have, and which of them are silent.
 -- Assumes nothing.
-use mathlib.Core.Path.{_≡_, refl, sym, _∙_}
-use mathlib.Core.Bool.{Bool, true, false, not, _||_, false≢true}
+use mathlib.Core.Path.{_≡_, refl, sym}
+use mathlib.Core.Bool.{Bool, true, false, not, false≢true}
 use mathlib.Core.List.{List, [], _∷_}
 use Prim.Native.Nat.{ℕ}
-use lib.Dec.{eqb, leb}
+use lib.Dec.{leb}
 use Rattle.laws.specs.Each.{every, among}
 use Rattle.laws.proofs.Each.{every-among}
 use Rattle.checks.specs.declared.Check.{Check}
 use Rattle.checks.specs.declared.Check.the-variants.{Buffer, Caller, Short, Length, Control, Header, Apid, Service, Subtype, Form, Memory, Right, Outside}
-use Rattle.checks.specs.declared.Refusal.{Refusal}
 use Rattle.checks.specs.declared.Verdict.{Verdict}
 use Rattle.checks.specs.declared.Verdict.the-variants.{Accepted, Refused}
 use Rattle.checks.specs.Verdict.{checkNumber, isAccepted, numberOf, silent}
@@ -58,11 +57,6 @@ silent-numbers (Refused r) =
   where
     by-all : every (λ (n : ℕ). alike (leb 40 n) (among n (40 ∷ 41 ∷ 42 ∷ []))) numbers ≡ true
     by-all = refl
-
--- Only acceptance is marked as such.
-pub accepted-is : (v : Verdict) → isAccepted v ≡ true → v ≡ Accepted
-accepted-is Accepted h = refl
-accepted-is (Refused r) h = absurd (false≢true h)
 
 -- A verdict without a frame is a refusal.
 pub silent-refuses : (v : Verdict) → silent v ≡ true → isAccepted v ≡ false

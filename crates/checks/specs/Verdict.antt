@@ -1,6 +1,6 @@
 -- Document 01, "Refusal numbers in checking order": the number of each check, and the number and the detail of a verdict.
 use mathlib.Core.Bool.{Bool, true, false}
-use mathlib.Core.List.{List, [], _∷_}
+use mathlib.Core.List.{List}
 use Prim.Native.Nat.{ℕ}
 use lib.Dec.{leb}
 use Rattle.checks.specs.declared.Check.{Check}

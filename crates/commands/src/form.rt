@@ -1,83 +1,145 @@
-// Which octets each command takes.
-use crate::line;
-use crate::line::Line;
-use crate::session::COUNTS_OCTETS;
+// Which command a line is, and whether the octets that it is given are those that the command takes.
+use crate::session::AREA_OCTETS;
+use crate::session::AREAS;
+use crate::session::HEAD_OCTETS;
 use crate::session::OUT_ROOM;
+use crate::session::RIGHTS_AT;
 use crate::session::STORE_ROOM;
+use crate::session::TIME_OCTETS;
+ghost use mathlib.Core.Path.{_≡_};
+ghost use lib.ListN.{drop};
+ghost use Rattle.commands.specs.Form.{isLine, standsAlone, rightsKnown, isProfile, isBuffer, takes, commandOf};
 
-// The letter of a line that is a command with the octets that it takes, and 0 for any other line.
-pub fn command(l: Line, given: &[u8]) -> u8 {
-    if !line::is_whole(l) {
-        return 0;
+// The most octets that a line gives, and the most characters of a line: a letter, a space, and two digits for each.
+pub const GIVEN_MOST: usize = 70000;
+
+pub const LINE_MOST: usize = 140002;
+
+// The most octets of a packet at the terminal.
+const PACKET_MOST: usize = 69999;
+
+// The octets of an order to the writer before its data.
+const ORDER_OCTETS: usize = 8;
+
+// The flags and the rights that there are, as the largest octet of them.
+const FLAGS_MOST: u16 = 15;
+
+const RIGHTS_MOST: u16 = 7;
+
+// Whether a line is a letter alone, or a letter, a space and the digits of whole octets, at most 70,000 of them.
+pub fn is_line(line: &[u8]) -> bool
+    ensures { λ r. ⌜ r ≡ isLine (now (line .entry)) ⌝ }
+{
+    if line.len() == 1 {
+        return true;
     }
-    if l.seen == 1 {
-        return alone(l.letter);
+    if line.len() < 2 {
+        return false;
     }
-    if !is_right(l.letter, given) {
-        return 0;
+    if LINE_MOST < line.len() {
+        return false;
     }
-    l.letter
+    let odd = line.len() % 2;
+    if odd != 0 {
+        return false;
+    }
+    if line[1] != b' ' {
+        return false;
+    }
+    characters::text::all_digits(digits(line))
 }
 
-// The letter of a command that takes no octets, and 0 for any other.
-fn alone(letter: u8) -> u8 {
-    match letter {
-        b'O' => letter,
-        b'M' => letter,
-        _ => 0,
+// The digits of a line: what stands behind its letter and its space.
+pub fn digits(line: &[u8]) -> &[u8]
+    ensures { λ r. ⌜ now r ≡ drop 2 (now (line .entry)) ⌝ }
+{
+    if line.len() < 2 {
+        return &line[..0];
     }
+    &line[2..]
+}
+
+// The letter of a line that is given those octets, where it is a command that stands alone, or one that takes them; 0 for any other line, which is bad.
+pub fn asked(line: &[u8], given: &[u8]) -> u8
+    ensures { λ r. ⌜ r ≡ commandOf (now (line .entry)) (now (given .entry)) ⌝ }
+{
+    if !is_line(line) {
+        return 0;
+    }
+    let letter = octets::numbers::octet_at(line, 0) as u8;
+    let right = if line.len() == 1 {
+        stands_alone(letter)
+    } else {
+        takes(letter, given)
+    };
+    if right { letter } else { 0 }
+}
+
+// Whether a letter is a command by itself.
+fn stands_alone(letter: u8) -> bool
+    ensures { λ r. ⌜ r ≡ standsAlone letter ⌝ }
+{
+    letter == b'O' || letter == b'M'
 }
 
 // Whether a letter is a command that takes octets, and takes these.
-fn is_right(letter: u8, given: &[u8]) -> bool {
+fn takes(letter: u8, given: &[u8]) -> bool
+    ensures { λ r. ⌜ r ≡ takes letter (now (given .entry)) ⌝ }
+{
     let n = given.len();
     match letter {
         b'P' => is_profile(given),
         b'V' => is_profile(given),
         b'S' => n <= STORE_ROOM,
-        b'K' => n == COUNTS_OCTETS,
-        b'T' => n == 6,
+        b'K' => n == tm::counts::OCTETS,
+        b'T' => n == TIME_OCTETS,
         b'B' => is_buffer(given),
-        b'X' => n <= 69999,
+        b'X' => n <= PACKET_MOST,
         b'R' => true,
-        b'W' => 8 <= n,
+        b'W' => ORDER_OCTETS <= n,
         b'C' => true,
         _ => false,
     }
 }
 
-// P: PID, four flags, area count, and at most 8 whole areas.
-fn is_profile(given: &[u8]) -> bool {
-    let n = given.len();
-    if n < 3 {
+// PID, flags, area count, and at most 8 whole areas, with no flag and no right that there is not.
+fn is_profile(given: &[u8]) -> bool
+    ensures { λ r. ⌜ r ≡ isProfile (now (given .entry)) ⌝ }
+{
+    if given.len() < HEAD_OCTETS {
         return false;
     }
-    if (n - 3) % 14 != 0 {
+    let areas = given.len() - HEAD_OCTETS;
+    if areas % AREA_OCTETS != 0 {
         return false;
     }
-    if 8 < (n - 3) / 14 {
+    if AREAS < areas / AREA_OCTETS {
         return false;
     }
-    if 15 < given[1] {
+    if FLAGS_MOST < octets::numbers::octet_at(given, 1) {
         return false;
     }
-    has_rights(given)
+    rights_known(given)
 }
 
-// Whether the rights of each area, its last octet, are the three that there are.
-fn has_rights(given: &[u8]) -> bool {
-    let mut place: usize = 16;
-    while place < given.len() {
-        if 7 < given[place] {
+// Whether the rights of each area are among the three that there are; octets past the end count as 0.
+fn rights_known(given: &[u8]) -> bool
+    ensures { λ r. ⌜ r ≡ rightsKnown 8 (now (given .entry)) ⌝ }
+{
+    let mut k = AREAS;
+    while k > 0 {
+        k -= 1;
+        if RIGHTS_MOST < octets::numbers::octet_at(given, RIGHTS_AT + AREA_OCTETS * k) {
             return false;
         }
-        place += 14;
     }
     true
 }
 
-// B: a length of at most 8,192, and an octet.
-fn is_buffer(given: &[u8]) -> bool {
+// A length of at most 8,192, and an octet.
+fn is_buffer(given: &[u8]) -> bool
+    ensures { λ r. ⌜ r ≡ isBuffer (now (given .entry)) ⌝ }
+{
     if given.len() != 3 {
         return false;
     }

@@ -1,22 +1,23 @@
 // What stays from line to line, and the commands that set it: P, S, K, T and B.
-use crate::line::Line;
-use crate::text::Text;
 use decide::State;
 use map::Area;
 use map::Flags;
 use map::Profile;
 use map::Rights;
-use tm::counts::Counts;
+ghost use mathlib.Core.Path.{_≡_};
+ghost use Prim.Native.Nat.{_<_};
+ghost use lib.ListN.{length};
+ghost use Rattle.octets.specs.Numbers.{octet};
+ghost use Rattle.octets.specs.Copy.{laid};
+ghost use Rattle.commands.specs.Session.{startOf, areaAt, profileIn, stateIn, timeIn, filling, withProfile, withState, withTime, withStored, withRoom};
 
-// The terminal's profile, counts and time, the lengths of its store and output buffer, the line that comes in, and the text that goes out.
+// The terminal's profile, counts and time, and the lengths of its store and its output buffer.
 pub struct Session {
     pub profile: Profile,
     pub state: State,
     pub time: [u8; 6],
     pub stored: usize,
     pub room: usize,
-    pub line: Line,
-    pub text: Text,
 }
 
 // The longest store, and what holds it.
@@ -29,73 +30,58 @@ pub const OUT_ROOM: usize = 8192;
 
 pub type Out = [u8; OUT_ROOM];
 
-// How many octets the counts of all categories are.
-pub const COUNTS_OCTETS: usize = 4;
+// How many octets the time is.
+pub const TIME_OCTETS: usize = 6;
 
-// The lengths of both at the start.
+// How many octets stand before the areas of a profile, how many an area has, where the rights of the first stand, and how many areas there are at the most.
+pub const HEAD_OCTETS: usize = 3;
+
+pub const AREA_OCTETS: usize = 14;
+
+pub const RIGHTS_AT: usize = 16;
+
+pub const AREAS: usize = 8;
+
+// The lengths of store and output buffer at the start.
 const STORED: usize = 128;
 
 const ROOM: usize = 4096;
 
-// The start: the line program's profile, 128 octets of store, an output buffer of 4,096.
-pub fn start() -> Session {
+// The start: a profile, counts of 0, time zero, 128 octets of store, an output buffer of 4,096.
+pub fn start(profile: Profile) -> Session
+    ensures { λ r. ⌜ r ≡ startOf profile ⌝ }
+{
     Session {
-        profile: hexline::profile(),
+        profile,
         state: State {
             counts: tm::counts::none(),
         },
         time: [0; 6],
         stored: STORED,
         room: ROOM,
-        line: crate::line::start(),
-        text: crate::text::start(),
     }
 }
 
-// Eight area places, all zero.
-fn no_areas() -> [Area; 8] {
-    let area = Area {
-        id: 0,
-        start: 0,
-        length: 0,
-        first: 0,
-        rights: Rights {
-            load: false,
-            dump: false,
-            check: false,
-        },
-    };
-    [area; 8]
-}
-
-// The session with another text.
-pub fn with_text(s: Session, text: Text) -> Session {
-    let mut next = s;
-    next.text = text;
-    next
-}
-
-// The session with another line.
-pub fn with_line(s: Session, line: Line) -> Session {
-    let mut next = s;
-    next.line = line;
-    next
-}
-
 // The session with other counts.
-pub fn with_state(s: Session, state: State) -> Session {
+pub fn with_state(s: Session, state: State) -> Session
+    ensures { λ r. ⌜ r ≡ withState s state ⌝ }
+{
     let mut next = s;
     next.state = state;
     next
 }
 
 // The octet at a place, and 0 past the end.
-pub fn one(octets: &[u8], at: usize) -> u8 {
+pub fn one(octets: &[u8], at: usize) -> u8
+    ensures { λ r. ⌜ r ≡ octet (now (octets .entry)) at ⌝ }
+{
     octets::numbers::octet_at(octets, at) as u8
 }
 
 // P: the profile.
-pub fn set_profile(s: Session, given: &[u8]) -> Session {
+pub fn set_profile(s: Session, given: &[u8]) -> Session
+    ensures { λ r. ⌜ r ≡ withProfile s (profileIn (now (given .entry))) ⌝ }
+{
     let profile = profile_in(given);
     let mut next = s;
     next.profile = profile;
@@ -103,9 +89,10 @@ pub fn set_profile(s: Session, given: &[u8]) -> Session {
 }
 
 // PID, flags, area count, areas.
-pub fn profile_in(given: &[u8]) -> Profile {
+pub fn profile_in(given: &[u8]) -> Profile
+    ensures { λ r. ⌜ r ≡ profileIn (now (given .entry)) ⌝ }
+{
     let flags = one(given, 1);
-    let areas = areas_in(given);
     Profile {
         pid: one(given, 0),
         flags: Flags {
@@ -115,30 +102,31 @@ pub fn profile_in(given: &[u8]) -> Profile {
             connection: flags / 8 % 2 == 1,
         },
         count: one(given, 2),
-        areas,
+        areas: [
+            area_at(given, 0),
+            area_at(given, 1),
+            area_at(given, 2),
+            area_at(given, 3),
+            area_at(given, 4),
+            area_at(given, 5),
+            area_at(given, 6),
+            area_at(given, 7),
+        ],
     }
 }
 
-// The areas from the fourth octet on, 14 octets each; the places after them are all zero.
-fn areas_in(given: &[u8]) -> [Area; 8] {
-    let mut areas = no_areas();
-    let mut place: usize = 3;
-    while place < given.len() {
-        let next = map::set_area(areas, (place - 3) / 14, area_of(&given[place..]));
-        areas = next;
-        place += 14;
-    }
-    areas
-}
-
-// The area at the front of some octets: ID, start, length, first word, rights.
-fn area_of(octets: &[u8]) -> Area {
-    let rights = one(octets, 13);
+// An area of a profile: ID, start, length, first word, rights; octets past the end count as 0, so that an area that is not given is all zero.
+fn area_at(given: &[u8], index: usize) -> Area
+    requires { ⌜ index < 8 ⌝ }
+    ensures { λ r. ⌜ r ≡ areaAt (now (given .entry)) index ⌝ }
+{
+    let at = HEAD_OCTETS + AREA_OCTETS * index;
+    let rights = one(given, at + 13);
     Area {
-        id: one(octets, 0),
-        start: octets::numbers::word32_at(octets, 1),
-        length: octets::numbers::word32_at(octets, 5),
-        first: octets::numbers::word32_at(octets, 9),
+        id: one(given, at),
+        start: octets::numbers::word32_at(given, at + 1),
+        length: octets::numbers::word32_at(given, at + 5),
+        first: octets::numbers::word32_at(given, at + 9),
         rights: Rights {
             load: rights % 2 == 1,
             dump: rights / 2 % 2 == 1,
@@ -148,22 +136,27 @@ fn area_of(octets: &[u8]) -> Area {
 }
 
 // S: the store.
-pub fn set_store(s: Session, given: &[u8], store: &mut Store) -> Session {
+pub fn set_store(s: Session, given: &[u8], store: &mut [u8]) -> Session
+    ensures { λ r. ⌜ r ≡ withStored s (length (now (given .entry))) ⌝ }
+    ensures { λ _. ⌜ now (store .exit) ≡ laid (now (store .entry)) 0 (now (given .entry)) ⌝ }
+{
     let mut next = s;
     next.stored = octets::copy::put(store, 0, given);
     next
 }
 
-// K: the counts of category 1 and 9.
-pub fn set_counts(s: Session, given: &[u8]) -> Session {
-    let reports = octets::numbers::word16_at(given, 0);
-    let services = octets::numbers::word16_at(given, 2);
-    let counts = Counts { reports, services };
+// K: the counts.
+pub fn set_counts(s: Session, given: &[u8]) -> Session
+    ensures { λ r. ⌜ r ≡ withState s (stateIn (now (given .entry))) ⌝ }
+{
+    let counts = tm::counts::counts_in(given);
     with_state(s, State { counts })
 }
 
 // T: the time.
-pub fn set_time(s: Session, given: &[u8]) -> Session {
+pub fn set_time(s: Session, given: &[u8]) -> Session
+    ensures { λ r. ⌜ r ≡ withTime s (timeIn (now (given .entry))) ⌝ }
+{
     let time = [
         one(given, 0),
         one(given, 1),
@@ -178,22 +171,13 @@ pub fn set_time(s: Session, given: &[u8]) -> Session {
 }
 
 // B: the output buffer's length, and the octet that fills it.
-pub fn set_buffer(s: Session, given: &[u8], out: &mut Out) -> Session {
+pub fn set_buffer(s: Session, given: &[u8], out: &mut [u8]) -> Session
+    ensures { λ r. ⌜ r ≡ withRoom s (length (filling (now (given .entry)))) ⌝ }
+    ensures { λ _. ⌜ now (out .exit) ≡ laid (now (out .entry)) 0 (filling (now (given .entry))) ⌝ }
+{
+    let full = [one(given, 2); OUT_ROOM];
     let length = octets::numbers::word16_at(given, 0) as usize;
-    fill(out, length, one(given, 2));
     let mut next = s;
-    next.room = length;
+    next.room = octets::copy::put(out, 0, lines::front(&full, length));
     next
-}
-
-// Puts one octet at each of the first places of a buffer, as far as it goes.
-fn fill(buffer: &mut [u8], count: usize, octet: u8) {
-    let mut i = 0;
-    while i < buffer.len() {
-        if count <= i {
-            return;
-        }
-        buffer[i] = octet;
-        i += 1;
-    }
 }

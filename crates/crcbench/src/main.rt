@@ -15,6 +15,10 @@ fn main() {
 
 // The CRC of the octets takes the place of the first two.
 fn turn(octets: &mut [u8]) {
-    let value = octets::numbers::octets_of16(crc::crc(octets));
-    octets::copy::put(octets, 0, &value);
+    if octets.len() < 2 {
+        return;
+    }
+    let value = crc::crc(octets);
+    octets[0] = (value / octets::numbers::VALUES) as u8;
+    octets[1] = (value % octets::numbers::VALUES) as u8;
 }

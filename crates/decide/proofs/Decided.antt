@@ -1,7 +1,7 @@
 -- What a verdict tells: of a packet that is answered with a frame, and of one that is accepted.
 -- Assumes nothing.
 use mathlib.Core.Path.{_≡_, refl, sym, ap, subst, _∙_}
-use mathlib.Core.Bool.{true, false, false≢true, _&&_}
+use mathlib.Core.Bool.{true, false, false≢true}
 use mathlib.Core.List.{List}
 use Prim.Native.Nat.{ℕ, _≤_}
 use lib.ListN.{length}
@@ -13,7 +13,6 @@ use Rattle.checks.specs.declared.Verdict.{Verdict}
 use Rattle.checks.specs.declared.Verdict.the-variants.{Accepted}
 use Rattle.checks.specs.Verdict.{isAccepted, silent}
 use Rattle.checks.specs.Table.{AllHold}
-use Rattle.checks.proofs.Numbers.{accepted-is}
 use Rattle.checks.proofs.Table.{all-append}
 use Rattle.checks.proofs.Verdicts.{accepted-holds, all-accept}
 use Rattle.tc.specs.Layout.{category, fieldsOf, applicationOf}
@@ -25,15 +24,14 @@ use Rattle.map.specs.declared.Found.{Found}
 use Rattle.map.specs.declared.Found.the-variants.{At, Nothing}
 use Rattle.map.specs.Sound.{sound, storeAllowed}
 use Rattle.blocks.specs.Blocks.{blocksOf}
-use Rattle.blocks.specs.Form.{headRight, formOf, isRight}
 use Rattle.tm.specs.Counts.{inRange}
 use Rattle.decide.specs.declared.State.{State}
-use Rattle.decide.specs.declared.Action.{Action}
-use Rattle.decide.specs.declared.Request.the-variants.{Memory, Connection}
-use Rattle.decide.specs.declared.Asked.{Asked}
-use Rattle.decide.specs.declared.Asked.the-variants.{Known, Unknown}
+use Rattle.requests.specs.declared.Action.{Action}
+use Rattle.requests.specs.declared.Request.the-variants.{Memory, Connection}
+use Rattle.requests.specs.declared.Asked.{Asked}
+use Rattle.requests.specs.declared.Asked.the-variants.{Known, Unknown}
 use Rattle.decide.specs.declared.Decision.{Decision}
-use Rattle.decide.specs.Request.{serves, offers, rightFor, carriedBy, mostWords, areaNamed, isFound, outsideOf}
+use Rattle.requests.specs.Request.{serves, offers, rightFor, carriedBy, areaNamed, isFound, outsideOf}
 use Rattle.decide.specs.Table.{outLeast, callerRight, hasRight, allInside, callerRows, areaRows, memoryRows, memoryTask, serviceRows, taskFor, askedBy, requestRows, rows, decided, decisionOf, Formed, FormedFor}
 use Rattle.decide.proofs.Checked.{decision-decided, at-buffer, at-caller, at-reader}
 

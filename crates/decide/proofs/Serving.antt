@@ -1,6 +1,6 @@
 -- The rows of what is asked, check by check: each refusal where its row is the first that fails, and acceptance where none does.
 -- Assumes nothing.
-use mathlib.Core.Path.{_≡_, refl, sym, ap, _∙_}
+use mathlib.Core.Path.{_≡_, sym, ap, _∙_}
 use mathlib.Core.Bool.{true, false}
 use mathlib.Core.List.{List, [], _∷_}
 use Prim.Native.Nat.{ℕ, _+_, _*_}
@@ -21,13 +21,11 @@ use Rattle.blocks.specs.declared.Form.{Form as Shape}
 use Rattle.blocks.specs.declared.Form.the-variants.{Right as WellFormed, Wrong}
 use Rattle.blocks.specs.Blocks.{memoryId, blocksOf}
 use Rattle.blocks.specs.Form.{headRight, formOf, isRight, formDetail}
-use Rattle.decide.specs.declared.Action.{Action}
-use Rattle.decide.specs.declared.Asked.{Asked}
-use Rattle.decide.specs.declared.Task.{Task}
+use Rattle.requests.specs.declared.Action.{Action}
 use Rattle.decide.specs.declared.Decision.{Decision}
-use Rattle.decide.specs.Request.{serves, offers, rightFor, carriedBy, mostWords, areaNamed, isFound, outsideOf}
+use Rattle.requests.specs.Request.{serves, offers, rightFor, carriedBy, mostWords, areaNamed, isFound, outsideOf}
 use Rattle.decide.specs.Decision.{acceptedWith, decidedBy}
-use Rattle.decide.specs.Table.{hasRight, outsideNumber, allInside, areaRows, memoryRows, memoryTask, askedBy, serviceRows, requestRows, areaDecision, memoryDecision, serviceDecision, requestDecision}
+use Rattle.decide.specs.Table.{areaRows, memoryRows, memoryTask, askedBy, serviceRows, requestRows, areaDecision, memoryDecision, serviceDecision, requestDecision}
 use Rattle.decide.proofs.Checked.{failing, refuses, passes}
 
 module _ (action : Action) (ack : ℕ) («data» : Span) (d : List ℕ) where

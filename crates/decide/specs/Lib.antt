@@ -1,3 +1,2 @@
-pub mod Request
 pub mod Decision
 pub mod Table

@@ -24,14 +24,14 @@ use Rattle.blocks.specs.Blocks.{memoryId, blocksOf}
 use Rattle.blocks.specs.Form.{headRight, formOf, isRight, formDetail}
 use Rattle.tm.specs.Counts.{inRange}
 use Rattle.decide.specs.declared.State.{State}
-use Rattle.decide.specs.declared.Action.{Action}
-use Rattle.decide.specs.declared.Request.the-variants.{Memory as Asks, Connection}
-use Rattle.decide.specs.declared.Asked.{Asked}
-use Rattle.decide.specs.declared.Asked.the-variants.{Known, Unknown}
+use Rattle.requests.specs.declared.Action.{Action}
+use Rattle.requests.specs.declared.Request.the-variants.{Memory as Asks, Connection}
+use Rattle.requests.specs.declared.Asked.{Asked}
+use Rattle.requests.specs.declared.Asked.the-variants.{Known, Unknown}
 use Rattle.decide.specs.declared.Task.{Task}
 use Rattle.decide.specs.declared.Task.the-variants.{Idle, Memory as OnArea, Connection as Connect}
 use Rattle.decide.specs.declared.Decision.{Decision}
-use Rattle.decide.specs.Request.{serves, askedFor, offers, rightFor, carriedBy, mostWords, areaNamed, isFound, outsideOf}
+use Rattle.requests.specs.Request.{serves, askedFor, offers, rightFor, carriedBy, mostWords, areaNamed, isFound, outsideOf}
 use Rattle.decide.specs.Decision.{acceptedWith, decidedBy}
 
 -- ---- what the caller hands in

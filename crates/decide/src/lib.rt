@@ -3,46 +3,24 @@ use blocks::Form;
 use checks::Check;
 use checks::Verdict;
 use map::Area;
-use map::Flags;
 use map::Found;
 use map::Profile;
-use map::Rights;
 use octets::copy::Span;
+use requests::Action;
+use requests::Asked;
+use requests::Request;
 use tc::Fields;
 use tm::counts::Counts;
 ghost use mathlib.Core.Path.{_≡_};
 ghost use Prim.Native.Nat.{_+_, _*_};
 ghost use Rattle.octets.specs.Copy.{placed};
 ghost use Rattle.checks.specs.Verdict.{refusal};
-ghost use Rattle.blocks.specs.Blocks.{blocksOf};
-ghost use Rattle.decide.specs.Request.{serves, askedFor, memoryAsked, offers, rightFor, carriedBy, mostWords, outsideOf};
 ghost use Rattle.decide.specs.Table.{callerRight, requestDecision, serviceDecision, connectionDecision, memoryDecision, areaDecision, decisionOf};
 ghost use Rattle.decide.specs.Decision.{refusedBy, acceptedWith};
 
 // What goes from packet to packet besides the store.
 pub struct State {
     pub counts: Counts,
-}
-
-// What a TC of service 6 asks for: (6,2), (6,5) or (6,9).
-pub enum Action {
-    Load,
-    Dump,
-    Check,
-}
-
-// What can be asked of a service.
-pub enum Request {
-    // Of service 6.
-    Memory(Action),
-    // Of service 17: (17,1).
-    Connection,
-}
-
-// What a type and subtype ask for, if they are known.
-pub enum Asked {
-    Known(Request),
-    Unknown,
 }
 
 // What service 6 is to do, and on which area.
@@ -71,18 +49,8 @@ pub struct Decision {
     pub work: Work,
 }
 
-// The types of the services known.
-const MEMORY: u8 = 6;
-
-const CONNECTION: u8 = 17;
-
 // The fewest octets of an output buffer.
 const OUT_LEAST: usize = 4096;
-
-// The most words of a block of a dump, and of any other, as many as its field can say.
-const DUMP_MOST: u16 = 240;
-
-const FIELD_MOST: u16 = 65535;
 
 // The decision on a packet: 40, 41, the reader's checks, and then those of what the packet asks for.
 pub fn decide(profile: Profile, state: State, store: usize, out: usize, packet: &[u8]) -> Decision
@@ -154,11 +122,11 @@ fn judge_request(profile: Profile, fields: Fields, data: Span, packet: &[u8]) ->
     if fields.apid != addressed {
         return refuse(Check::Apid, fields.apid);
     }
-    if !is_served(profile.flags, fields.kind) {
+    if !requests::is_served(profile.flags, fields.kind) {
         return refuse(Check::Service, fields.kind as u16);
     }
-    let asked = asked_for(fields.kind, fields.subtype);
-    if !is_offered(profile.flags, asked) {
+    let asked = requests::asked_for(fields.kind, fields.subtype);
+    if !requests::is_offered(profile.flags, asked) {
         return refuse(Check::Subtype, pair(fields.kind, fields.subtype));
     }
     judge_service(profile, asked, fields.ack, data, packet)
@@ -185,73 +153,6 @@ fn pair(kind: u8, subtype: u8) -> u16
     (kind as u16) * octets::numbers::VALUES + (subtype as u16)
 }
 
-// What a type and subtype ask for.
-fn asked_for(kind: u8, subtype: u8) -> Asked
-    ensures { λ r. ⌜ r ≡ askedFor kind subtype ⌝ }
-{
-    if kind == MEMORY {
-        return memory_asked(subtype);
-    }
-    if kind == CONNECTION {
-        if subtype == 1 {
-            return Asked::Known(Request::Connection);
-        }
-    }
-    Asked::Unknown
-}
-
-// What a subtype of service 6 asks for.
-fn memory_asked(subtype: u8) -> Asked
-    ensures { λ r. ⌜ r ≡ memoryAsked subtype ⌝ }
-{
-    if subtype == 2 {
-        return Asked::Known(Request::Memory(Action::Load));
-    }
-    if subtype == 5 {
-        return Asked::Known(Request::Memory(Action::Dump));
-    }
-    if subtype == 9 {
-        return Asked::Known(Request::Memory(Action::Check));
-    }
-    Asked::Unknown
-}
-
-// Check 3: the type is 6 or 17, and a flag of it is set.
-fn is_served(flags: Flags, kind: u8) -> bool
-    ensures { λ r. ⌜ r ≡ serves flags kind ⌝ }
-{
-    if kind == MEMORY {
-        if flags.load {
-            return true;
-        }
-        if flags.dump {
-            return true;
-        }
-        return flags.check;
-    }
-    if kind == CONNECTION {
-        return flags.connection;
-    }
-    false
-}
-
-// Check 4: the request is known, and its flag is on.
-fn is_offered(flags: Flags, asked: Asked) -> bool
-    ensures { λ r. ⌜ r ≡ offers flags asked ⌝ }
-{
-    let Asked::Known(request) = asked else {
-        return false;
-    };
-    match request {
-        Request::Memory(action) => match action {
-            Action::Load => flags.load,
-            Action::Dump => flags.dump,
-            Action::Check => flags.check,
-        },
-        Request::Connection => flags.connection,
-    }
-}
-
 // Service 17: check 5, there is no application data.
 fn judge_connection(ack: u8, data: Span, application: &[u8]) -> Decision
     ensures { λ r. ⌜ r ≡ connectionDecision ack «data» (now (application .entry)) ⌝ }
@@ -275,7 +176,11 @@ fn judge_memory(
     if !blocks::shape::head_right(application) {
         return refuse(Check::Form, 0);
     }
-    let form = blocks::shape::form(carried_by(action), most_words(action), application);
+    let form = blocks::shape::form(
+        requests::carried_by(action),
+        requests::most_words(action),
+        application,
+    );
     if let Form::Wrong(k) = form {
         return refuse(Check::Form, k);
     }
@@ -291,64 +196,13 @@ fn judge_memory(
 fn judge_area(area: Area, action: Action, ack: u8, data: Span, application: &[u8]) -> Decision
     ensures { λ r. ⌜ r ≡ areaDecision area action ack «data» (now (application .entry)) ⌝ }
 {
-    if !right_for(area.rights, action) {
+    if !requests::right_for(area.rights, action) {
         let id = blocks::reading::memory_id(application);
         return refuse(Check::Right, id as u16);
     }
-    let outside = first_outside(area, carried_by(action), application);
+    let outside = requests::first_outside(area, requests::carried_by(action), application);
     if outside != 0 {
         return refuse(Check::Outside, outside);
     }
     accepted(Task::Memory(Job { action, area }), ack, data)
-}
-
-// The right in an area that an action needs.
-fn right_for(rights: Rights, action: Action) -> bool
-    ensures { λ r. ⌜ r ≡ rightFor rights action ⌝ }
-{
-    match action {
-        Action::Load => rights.load,
-        Action::Dump => rights.dump,
-        Action::Check => rights.check,
-    }
-}
-
-// How many octets of the application data a word of a block is: a load carries its words, a dump and a check do not.
-pub fn carried_by(action: Action) -> u8
-    ensures { λ r. ⌜ r ≡ carriedBy action ⌝ }
-{
-    match action {
-        Action::Load => map::place::word_octets(),
-        Action::Dump => 0,
-        Action::Check => 0,
-    }
-}
-
-// The most words that a block may be long.
-fn most_words(action: Action) -> u16
-    ensures { λ r. ⌜ r ≡ mostWords action ⌝ }
-{
-    match action {
-        Action::Load => FIELD_MOST,
-        Action::Dump => DUMP_MOST,
-        Action::Check => FIELD_MOST,
-    }
-}
-
-// The first block, from 1, that is not wholly inside an area; 0 where all are. A word carries so many octets in the application data.
-fn first_outside(area: Area, carried: u8, application: &[u8]) -> u16
-    ensures { λ r. ⌜ r ≡ outsideOf area (blocksOf carried (now (application .entry))) ⌝ }
-{
-    let count = blocks::reading::block_count(application);
-    let mut place: usize = blocks::FIRST;
-    let mut i: u8 = 0;
-    while i < count {
-        let block = blocks::reading::block_at(carried, application, place);
-        if !map::place::lies_inside(area, block.start, block.words as u32) {
-            return (i as u16) + 1;
-        }
-        place = block.next;
-        i += 1;
-    }
-    0
 }

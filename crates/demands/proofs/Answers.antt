@@ -7,8 +7,8 @@ use Rattle.laws.proofs.Tests.{by-test}
 use Rattle.checks.specs.Verdict.{isAccepted}
 use Rattle.tc.specs.Layout.{fieldsOf, applicationOf}
 use Rattle.map.specs.declared.Profile.{Profile}
-use Rattle.map.specs.Wider.{wider}
-use Rattle.map.proofs.Widening.{wider-facts}
+use Rattle.wider.specs.Wider.{wider}
+use Rattle.wider.proofs.Widening.{wider-facts}
 use Rattle.decide.specs.Table.{askedBy}
 use Rattle.decide.proofs.Decided.{accepted-facts}
 use Rattle.terminal.specs.Outcome.{doneBy, reportsDue, storeAfter, verdictOn, reportsOn, framesDue, octetsDue, outcomeOf, outAfter, storeOn}

@@ -10,22 +10,22 @@ use Rattle.tc.specs.Layout.{errorControl, fieldsOf, applicationOf, headOf, body
 use Rattle.tc.specs.Reader.{lengthRight, controlRight, firstFault, headerFault, readerRows}
 use Rattle.map.specs.Place.{wordOctets, findIn, inside, octetsOf, octetAt, storedAt}
 use Rattle.map.specs.Sound.{storeAllowed, areaSound, apart, pairSound, everyPair, sound}
-use Rattle.map.specs.Wider.{keepsRights, keepsWords, covers, covered, keepsFlags, wider}
+use Rattle.wider.specs.Wider.{keepsRights, keepsWords, covers, covered, keepsFlags, wider}
 use Rattle.blocks.specs.Blocks.{blockAt, blocksFrom, wordsOf}
 use Rattle.blocks.specs.Form.{headRight, blockRight, blockFault, endOf, exact, formOf}
 use Rattle.tm.specs.Counts.{categoryOf, countIn, advanced, inRange}
 use Rattle.tm.specs.Frame.{headOf as frameHeadOf, frameOf, stamped, framesOf, countsAfter}
-use Rattle.decide.specs.Request.{serves, memoryAsked, askedFor, outsideOf}
+use Rattle.requests.specs.Request.{serves, memoryAsked, askedFor, outsideOf}
 use Rattle.decide.specs.Table.{callerRight, callerRows, areaRows, memoryRows, connectionRows, requestRows, rows, decided}
 use Rattle.terminal.specs.Reports.{entriesOf}
 use Rattle.terminal.specs.Done.{loaded}
 use Rattle.terminal.specs.Outcome.{reportsFor, reportsDue, storeAfter, framesDue, outcomeOf, outAfter, storeOn}
-use Rattle.characters.specs.Digits.{valueOf, digitOf, textOf}
+use Rattle.characters.specs.Digits.{valueOf, digitOf, textOf, allDigits, octetsIn}
 use Rattle.lines.specs.Lines.{linesOf}
 use Rattle.lines.specs.Feed.{outputOf}
-use Rattle.hexline.specs.Line.{allDigits, isPacket, packetOf as packetIn, closingOf, packetAnswer, packetAfter, lineAnswer, lineAfter}
+use Rattle.hexline.specs.Line.{isPacket, closingOf, packetAnswer, packetAfter, lineAnswer, lineAfter}
 
 -- On an `unfolding` line it stands for all that its own line names.
 unfoldable pub all : Unit {0}
-unfolding xor every among firstFrom joined laid between takeBit takeBits crcFrom crcOf answer place errorControl fieldsOf applicationOf headOf bodyOf packetOf lengthRight controlRight firstFault headerFault readerRows wordOctets findIn inside octetsOf octetAt storedAt storeAllowed areaSound apart pairSound everyPair sound keepsRights keepsWords covers covered keepsFlags wider blockAt blocksFrom wordsOf headRight blockRight blockFault endOf exact formOf categoryOf countIn advanced inRange frameHeadOf frameOf stamped framesOf countsAfter serves memoryAsked askedFor outsideOf callerRight callerRows areaRows memoryRows connectionRows requestRows rows decided entriesOf loaded reportsFor reportsDue storeAfter framesDue outcomeOf outAfter storeOn answers valueOf digitOf textOf linesOf outputOf allDigits isPacket packetIn closingOf packetAnswer packetAfter lineAnswer lineAfter
+unfolding xor every among firstFrom joined laid between takeBit takeBits crcFrom crcOf answer place errorControl fieldsOf applicationOf headOf bodyOf packetOf lengthRight controlRight firstFault headerFault readerRows wordOctets findIn inside octetsOf octetAt storedAt storeAllowed areaSound apart pairSound everyPair sound keepsRights keepsWords covers covered keepsFlags wider blockAt blocksFrom wordsOf headRight blockRight blockFault endOf exact formOf categoryOf countIn advanced inRange frameHeadOf frameOf stamped framesOf countsAfter serves memoryAsked askedFor outsideOf callerRight callerRows areaRows memoryRows connectionRows requestRows rows decided entriesOf loaded reportsFor reportsDue storeAfter framesDue outcomeOf outAfter storeOn answers valueOf digitOf textOf linesOf outputOf allDigits octetsIn isPacket closingOf packetAnswer packetAfter lineAnswer lineAfter
 all = tt

@@ -24,9 +24,9 @@ use Rattle.tm.specs.declared.counts.Counts.{Counts}
 use Rattle.tm.specs.Counts.{nextCount, categoryOf, countIn}
 use Rattle.tm.specs.Frame.{frameOf, stamped}
 use Rattle.tm.specs.Source.{echoOf, failure}
-use Rattle.decide.specs.declared.Request.the-variants.{Memory, Connection}
-use Rattle.decide.specs.declared.Asked.{Asked}
-use Rattle.decide.specs.declared.Asked.the-variants.{Known, Unknown}
+use Rattle.requests.specs.declared.Request.the-variants.{Memory, Connection}
+use Rattle.requests.specs.declared.Asked.{Asked}
+use Rattle.requests.specs.declared.Asked.the-variants.{Known, Unknown}
 use Rattle.decide.specs.Table.{callerRows, areaRows, memoryRows, connectionRows, serviceRows, askedBy, requestRows, rows, decided}
 use Rattle.decide.proofs.Decided.{accepted-facts}
 use Rattle.terminal.specs.Outcome.{Input, verdictOn, framesDue, octetsDue, outcomeOf, outAfter, storeOn}

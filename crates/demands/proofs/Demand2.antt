@@ -9,11 +9,11 @@ use Rattle.laws.specs.Fold.{joined}
 use Rattle.octets.specs.Copy.{laid}
 use Rattle.checks.specs.declared.Verdict.the-variants.{Accepted}
 use Rattle.checks.specs.Verdict.{isAccepted}
-use Rattle.tc.specs.declared.Order.{Order}
+use Rattle.writer.specs.declared.Order.{Order}
 use Rattle.tc.specs.Layout.{fieldsOf, packetOf}
 use Rattle.tc.specs.Reader.{readingOf, dataRead}
-use Rattle.tc.specs.Writer.{fieldsFor, fieldsRight}
-use Rattle.tc.proofs.RoundTrip.{Octets, orderOf, written-reads, read-writes}
+use Rattle.writer.specs.Writer.{fieldsFor, fieldsRight}
+use Rattle.writer.proofs.RoundTrip.{Octets, orderOf, written-reads, read-writes}
 use Rattle.map.specs.declared.Area.{Area}
 use Rattle.map.specs.Place.{used, Off}
 use Rattle.tm.specs.Counts.{inRange}

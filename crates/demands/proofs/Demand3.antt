@@ -10,7 +10,7 @@ use Rattle.checks.specs.declared.Check.the-variants.{Outside}
 use Rattle.checks.specs.declared.Verdict.the-variants.{Refused}
 use Rattle.checks.specs.Verdict.{isAccepted, numberOf, refusal}
 use Rattle.map.specs.declared.Profile.{Profile}
-use Rattle.map.specs.Wider.{wider}
+use Rattle.wider.specs.Wider.{wider}
 use Rattle.terminal.specs.Outcome.{verdictOn, octetsDue}
 use Rattle.terminal.specs.Run.{Machine, Step, answerTo, after, inputFor, placeOn}
 use Rattle.terminal.proofs.Storing.{store-length}

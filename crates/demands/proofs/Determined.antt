@@ -4,10 +4,10 @@ use mathlib.Core.Path.{_≡_, sym, _∙_}
 use mathlib.Core.List.{List}
 use Prim.Native.Nat.{ℕ}
 use Rattle.tc.specs.declared.Reading.{Reading}
-use Rattle.tc.specs.declared.Order.{Order}
-use Rattle.tc.specs.declared.Written.{Written}
+use Rattle.writer.specs.declared.Order.{Order}
+use Rattle.writer.specs.declared.Written.{Written}
 use Rattle.tc.specs.Reader.{readingOf}
-use Rattle.tc.specs.Writer.{Writes}
+use Rattle.writer.specs.Writer.{Writes}
 use Rattle.terminal.specs.declared.Outcome.{Outcome}
 use Rattle.terminal.specs.Outcome.{Input, Answered}
 use Rattle.lines.specs.declared.Progress.{Progress}

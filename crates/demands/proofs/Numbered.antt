@@ -1,9 +1,9 @@
 -- On one packet a refusal's number settles all of it, but for 19, whose detail depends on the profile.
 -- Assumes nothing.
 use mathlib.Core.Path.{_≡_, refl, sym, ap, _∙_}
-use mathlib.Core.Logic.{_⊎_, inl, inr, ⊎-elim}
+use mathlib.Core.Logic.{_⊎_, inl, inr}
 use mathlib.Core.Bool.{true, false, cond, false≢true}
-use mathlib.Core.List.{List, [], _∷_}
+use mathlib.Core.List.{List}
 use Prim.Native.Nat.{ℕ, _+_, _*_, _≤_}
 use lib.Dec.{eqb}
 use Rattle.laws.specs.Each.{Each, among}
@@ -11,7 +11,7 @@ use Rattle.laws.proofs.Tests.{by-test}
 use Rattle.checks.specs.declared.Check.the-variants.{Service, Subtype, Memory, Right, Outside}
 use Rattle.checks.specs.declared.Refusal.{Refusal}
 use Rattle.checks.specs.declared.Verdict.the-variants.{Refused}
-use Rattle.checks.specs.Table.{Row, First}
+use Rattle.checks.specs.Table.{Row}
 use Rattle.checks.specs.Verdict.{checkNumber, isAccepted, numberOf, refusal, row}
 use Rattle.checks.proofs.Table.{first-row}
 use Rattle.checks.proofs.Verdicts.{refused-first}
@@ -19,15 +19,15 @@ use Rattle.tc.specs.declared.Fields.{Fields}
 use Rattle.tc.specs.Layout.{fieldsOf, applicationOf}
 use Rattle.tc.specs.Reader.{readerRows}
 use Rattle.map.specs.declared.Profile.{Profile}
-use Rattle.map.specs.Wider.{wider}
-use Rattle.map.proofs.Widening.{widened}
+use Rattle.wider.specs.Wider.{wider}
+use Rattle.wider.proofs.Widening.{widened}
 use Rattle.blocks.specs.Blocks.{memoryId}
 use Rattle.decide.specs.declared.State.{State}
-use Rattle.decide.specs.declared.Action.{Action}
-use Rattle.decide.specs.declared.Request.the-variants.{Memory as Asks, Connection}
-use Rattle.decide.specs.declared.Asked.{Asked}
-use Rattle.decide.specs.declared.Asked.the-variants.{Known, Unknown}
-use Rattle.decide.specs.Request.{areaNamed}
+use Rattle.requests.specs.declared.Action.{Action}
+use Rattle.requests.specs.declared.Request.the-variants.{Memory as Asks, Connection}
+use Rattle.requests.specs.declared.Asked.{Asked}
+use Rattle.requests.specs.declared.Asked.the-variants.{Known, Unknown}
+use Rattle.requests.specs.Request.{areaNamed}
 use Rattle.decide.specs.Table.{outsideNumber, allInside, callerRows, areaRows, memoryRows, connectionRows, serviceRows, askedBy, requestRows, rows, decided}
 use Rattle.demands.proofs.Widened.{outside-later}
 use Rattle.demands.proofs.Rows.{parts, same-verdict}

@@ -17,8 +17,8 @@ use Rattle.blocks.specs.declared.Form.the-variants.{Right, Wrong}
 use Rattle.blocks.specs.Form.{formOf}
 use Rattle.tm.specs.Counts.{nextCount}
 use Rattle.decide.specs.declared.State.{State}
-use Rattle.decide.specs.declared.Action.the-variants.{Dump}
-use Rattle.decide.specs.Request.{carriedBy, mostWords}
+use Rattle.requests.specs.declared.Action.the-variants.{Dump}
+use Rattle.requests.specs.Request.{carriedBy, mostWords}
 use Rattle.terminal.specs.Outcome.{verdictOn, octetsDue, outcomeOf}
 use Rattle.hexline.specs.Unit.{lineArea}
 use Rattle.demands.proofs.Computing.{all}

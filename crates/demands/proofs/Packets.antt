@@ -4,7 +4,7 @@ use Prim.Native.Nat.{ℕ}
 use lib.ListN.{replicate}
 use Rattle.octets.specs.Numbers.{octets16, octets32}
 use Rattle.tc.specs.Layout.{packetOf}
-use Rattle.tc.specs.Writer.{fieldsFor}
+use Rattle.writer.specs.Writer.{fieldsFor}
 use Rattle.map.specs.declared.Profile.{Profile}
 use Rattle.decide.specs.declared.State.{State}
 use Rattle.terminal.specs.Outcome.{Input, input}

@@ -9,7 +9,7 @@ use Rattle.laws.specs.Each.{Each}
 use Rattle.octets.specs.Numbers.{octet}
 use Rattle.map.specs.declared.Profile.{Profile}
 use Rattle.map.specs.Made.{allFlags, areaOf, areaWith, profileWith}
-use Rattle.map.specs.Wider.{wider}
+use Rattle.wider.specs.Wider.{wider}
 use Rattle.terminal.specs.Outcome.{verdictOn, storeOn}
 use Rattle.terminal.specs.Run.{placeOn}
 use Rattle.demands.proofs.Computing.{all}

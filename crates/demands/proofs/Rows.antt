@@ -1,8 +1,8 @@
 -- The tables of checks of a narrower profile and of a wider one for one packet, side by side, row by row.
 -- Assumes nothing.
-use mathlib.Core.Path.{_≡_, refl, sym, _∙_}
+use mathlib.Core.Path.{_≡_, refl}
 use mathlib.Core.Bool.{Bool, true, false, _||_, false≢true}
-use mathlib.Core.List.{List, [], _∷_, _++_}
+use mathlib.Core.List.{List, [], _∷_}
 use Prim.Native.Nat.{ℕ, _≤_}
 use lib.Dec.{eqb}
 use Rattle.laws.specs.Each.{among}
@@ -19,17 +19,17 @@ use Rattle.tc.specs.Layout.{category, fieldsOf, applicationOf}
 use Rattle.tc.specs.Reader.{readerRows}
 use Rattle.map.specs.declared.Flags.{Flags}
 use Rattle.map.specs.declared.Profile.{Profile}
-use Rattle.map.specs.Wider.{wider}
-use Rattle.map.proofs.Keeping.{KeptFlags, flags-kept}
-use Rattle.map.proofs.Widening.{WiderFacts, wider-facts, Widened, widened}
+use Rattle.wider.specs.Wider.{wider}
+use Rattle.wider.proofs.Keeping.{KeptFlags, flags-kept}
+use Rattle.wider.proofs.Widening.{WiderFacts, wider-facts, Widened, widened}
 use Rattle.blocks.specs.Blocks.{memoryId}
 use Rattle.decide.specs.declared.State.{State}
-use Rattle.decide.specs.declared.Action.{Action}
-use Rattle.decide.specs.declared.Action.the-variants.{Load, Dump, Check}
-use Rattle.decide.specs.declared.Request.the-variants.{Memory, Connection}
-use Rattle.decide.specs.declared.Asked.{Asked}
-use Rattle.decide.specs.declared.Asked.the-variants.{Known, Unknown}
-use Rattle.decide.specs.Request.{memoryType, connectionType, serves, flagFor, offers, areaNamed}
+use Rattle.requests.specs.declared.Action.{Action}
+use Rattle.requests.specs.declared.Action.the-variants.{Load, Dump, Check}
+use Rattle.requests.specs.declared.Request.the-variants.{Memory, Connection}
+use Rattle.requests.specs.declared.Asked.{Asked}
+use Rattle.requests.specs.declared.Asked.the-variants.{Known, Unknown}
+use Rattle.requests.specs.Request.{memoryType, connectionType, serves, flagFor, offers, areaNamed}
 use Rattle.decide.specs.Table.{callerRight, callerRows, areaRows, memoryRows, connectionRows, serviceRows, askedBy, requestRows, rows, decided}
 use Rattle.demands.proofs.Widened.{found-grows, right-grows, inside-grows}
 

@@ -16,19 +16,19 @@ use Rattle.map.specs.declared.Area.{Area}
 use Rattle.map.specs.declared.Profile.{Profile}
 use Rattle.map.specs.declared.Found.{Found}
 use Rattle.map.specs.Place.{inside, octetAt}
-use Rattle.map.specs.Wider.{keepsRights, covers, wider}
-use Rattle.map.proofs.Keeping.{rights-kept}
+use Rattle.wider.specs.Wider.{keepsRights, covers, wider}
+use Rattle.wider.proofs.Keeping.{rights-kept}
 use Rattle.map.proofs.Octets.{inside-facts}
-use Rattle.map.proofs.Covering.{covers-facts, covers-octet, covers-stored, covers-inside}
-use Rattle.map.proofs.Widening.{wider-finds, Widened, nowhere, widening}
+use Rattle.wider.proofs.Covering.{covers-facts, covers-octet, covers-stored, covers-inside}
+use Rattle.wider.proofs.Widening.{wider-finds, Widened, nowhere, widening}
 use Rattle.blocks.specs.declared.Block.{Block}
 use Rattle.blocks.specs.Blocks.{memoryId, blocksOf, wordsOf}
-use Rattle.decide.specs.declared.Action.{Action}
-use Rattle.decide.specs.declared.Action.the-variants.{Load, Dump, Check}
-use Rattle.decide.specs.declared.Request.the-variants.{Memory, Connection}
-use Rattle.decide.specs.declared.Asked.{Asked}
-use Rattle.decide.specs.declared.Asked.the-variants.{Known, Unknown}
-use Rattle.decide.specs.Request.{rightFor, carriedBy, isFound, outsideOf}
+use Rattle.requests.specs.declared.Action.{Action}
+use Rattle.requests.specs.declared.Action.the-variants.{Load, Dump, Check}
+use Rattle.requests.specs.declared.Request.the-variants.{Memory, Connection}
+use Rattle.requests.specs.declared.Asked.{Asked}
+use Rattle.requests.specs.declared.Asked.the-variants.{Known, Unknown}
+use Rattle.requests.specs.Request.{rightFor, carriedBy, isFound, outsideOf}
 use Rattle.decide.specs.Table.{hasRight, outsideNumber, allInside, serviceRows, taskFor}
 use Rattle.decide.proofs.Decided.{memory-facts}
 use Rattle.terminal.specs.Reports.{dumped, entriesOf}

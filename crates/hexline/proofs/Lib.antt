@@ -1,4 +1,3 @@
-pub mod Text
 pub mod Packets
 pub mod Cutting
 pub mod Serving

@@ -3,7 +3,7 @@
 use mathlib.Core.Path.{_≡_, refl, ap, ap₂, _∙_}
 use mathlib.Core.Bool.{true, false}
 use mathlib.Core.List.{List}
-use Prim.Native.Nat.{ℕ, _+_, _≤_}
+use Prim.Native.Nat.{ℕ, _+_, _/_, _≤_}
 use native.Mathlib.Omega.{arith}
 use lib.ListN.{length, take, length-append}
 use Rattle.octets.specs.Copy.{laid}
@@ -14,14 +14,15 @@ use Rattle.terminal.specs.declared.Outcome.{Outcome}
 use Rattle.terminal.specs.Outcome.{Input, verdictOn, reportsOn, framesDue, octetsDue, outcomeOf, outAfter, Answered}
 use Rattle.terminal.specs.Act.{answerMost}
 use Rattle.hexline.specs.declared.Written.{Written}
-use Rattle.hexline.specs.Line.{Station, packetInput, isPacket, packetOf, linesOf, closing, closingOf, packetAnswer, packetAfter, lineAnswer, lineAfter}
+use Rattle.hexline.specs.Line.{Station, packetInput, isPacket, linesOf, closing, closingOf, packetAnswer, packetAfter, lineAnswer, lineAfter}
 use Rattle.hexline.specs.Unit.{lineTime}
 use Rattle.hexline.specs.Whole.{answerRoom}
-use Rattle.characters.specs.Digits.{textOf}
+use Rattle.characters.specs.Digits.{textOf, octetsIn}
+use Rattle.characters.proofs.Texts.{decoded-front}
 use Rattle.tm.specs.Frame.{cut}
 use Rattle.tm.proofs.Frames.{cut-frames}
 use Rattle.hexline.specs.Said.{Said}
-use Rattle.hexline.proofs.Packets.{packet-facts, packet-length}
+use Rattle.hexline.proofs.Packets.{packet-facts}
 use Rattle.hexline.proofs.Cutting.{cut-most, closing-length}
 use Rattle.terminal.proofs.Due.{due-bounded, due-fits}
 
@@ -92,15 +93,15 @@ module _ (p : Profile) (m : Station) (packet : List ℕ) where
 -- A packet line's octets, at the front of the buffer that they were written to.
 pub record Decoded (line packet : List ℕ) (count : ℕ) : Type 0 where
   pub inside : count ≤ length packet
-  pub octets : take count packet ≡ packetOf line
+  pub octets : take count packet ≡ octetsIn line
 
-pub decoded : (line buffer packet : List ℕ) (count : ℕ) → isPacket line ≡ true → length buffer ≡ 2048 → count ≡ length (packetOf line)
-    → packet ≡ laid buffer 0 (packetOf line) → Decoded line packet count
-decoded line buffer packet count good room e f =
-    let few : length (packetOf line) ≤ length buffer = omega (arith, packet-length line, packet-facts line good .2) in
+pub decoded : (line buffer packet : List ℕ) (count : ℕ) → isPacket line ≡ true → length buffer ≡ 2048 → count ≡ length line / 2
+    → packet ≡ laid buffer 0 (octetsIn line) → Decoded line packet count
+decoded line buffer packet count good room half f =
+    let few : length line / 2 ≤ length buffer = omega (arith, packet-facts line good .2) in
     record {
-      inside = omega (arith, e, few, ap length f, laid-length buffer 0 (packetOf line));
-      octets = ap₂ (λ (n : ℕ) (o : List ℕ). take n o) e f ∙ laid-front buffer (packetOf line) few;
+      inside = omega (arith, half, few, ap length f, laid-length buffer 0 (octetsIn line));
+      octets = ap₂ (λ (n : ℕ) (o : List ℕ). take n o) half f ∙ decoded-front buffer line few;
     }
 
 module _ (p : Profile) (m : Station) (line : List ℕ) where
@@ -111,7 +112,7 @@ module _ (p : Profile) (m : Station) (line : List ℕ) where
   line-refused at end text t bad e f = rw bad (record { at-is = e; state-is = refl; store-is = refl; out-is = refl; text-is = f })
 
   -- What is said of the packet is said of the line.
-  pub line-served : (packet : List ℕ) (at : ℕ) (text : List ℕ) (r : Written) (store out t : List ℕ) → isPacket line ≡ true → packet ≡ packetOf line
+  pub line-served : (packet : List ℕ) (at : ℕ) (text : List ℕ) (r : Written) (store out t : List ℕ) → isPacket line ≡ true → packet ≡ octetsIn line
       → Said (packetAnswer p m packet) (packetAfter p m packet) at text r store out t
       → Said (lineAnswer p m line) (lineAfter p m line) at text r store out t
   unfolding lineAnswer lineAfter
@@ -120,4 +121,4 @@ module _ (p : Profile) (m : Station) (line : List ℕ) where
   pub line-answer-most : length (lineAnswer p m line) ≤ answerRoom
   unfolding lineAnswer textOf
   line-answer-most =
-      by-test (isPacket line) (λ t. rw t (packet-answer-most p m (packetOf line))) (λ e. rw e (omega arith))
+      by-test (isPacket line) (λ t. rw t (packet-answer-most p m (octetsIn line))) (λ e. rw e (omega arith))

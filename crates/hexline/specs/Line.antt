@@ -1,7 +1,7 @@
 -- Document 01, "The line program": what one line is answered.
-use mathlib.Core.Bool.{Bool, true, cond, _&&_}
+use mathlib.Core.Bool.{Bool, cond, _&&_}
 use mathlib.Core.List.{List, [], _∷_, _++_, map}
-use Prim.Native.Nat.{ℕ, _+_, _*_, _%_}
+use Prim.Native.Nat.{ℕ, _%_}
 use lib.ListN.{length}
 use lib.Dec.{leb, eqb}
 use Rattle.laws.specs.Fold.{joined}
@@ -11,13 +11,8 @@ use Rattle.map.specs.declared.Profile.{Profile}
 use Rattle.terminal.specs.Outcome.{Input, verdictOn, framesDue, outAfter}
 use Rattle.terminal.specs.Run.{Machine, Step, inputFor, after}
 use Rattle.lines.specs.Lines.{newline}
-use Rattle.characters.specs.Digits.{valueOf, isDigit, textOf}
+use Rattle.characters.specs.Digits.{textOf, allDigits, octetsIn}
 use Rattle.hexline.specs.Unit.{lineTime}
-
--- Whether every character of a line is a digit.
-unfoldable pub allDigits : List ℕ → Bool
-allDigits [] = true
-allDigits (c ∷ rest) = isDigit c && allDigits rest
 
 -- The most characters of a packet line.
 abbrev pub lineMost : ℕ
@@ -26,12 +21,6 @@ lineMost = 4096
 -- A packet line: digits only, an even count of them, and at most 4,096.
 unfoldable pub isPacket : List ℕ → Bool
 isPacket line = allDigits line && eqb (length line % 2) 0 && leb (length line) lineMost
-
--- The packet's octets, two digits each.
-unfoldable pub packetOf : List ℕ → List ℕ
-packetOf [] = []
-packetOf (high ∷ []) = []
-packetOf (high ∷ low ∷ rest) = (valueOf high * 16 + valueOf low) ∷ packetOf rest
 
 -- What goes from line to line: the terminal's machine, and the output buffer as it stands.
 pub record Station : Type 0 where
@@ -71,8 +60,8 @@ packetAfter p m packet = record { machine = after p (m .machine) (stepFor m pack
 
 -- What a line is answered: 0200 where it is no packet line.
 unfoldable pub lineAnswer : Profile → Station → List ℕ → List ℕ
-lineAnswer p m line = cond (isPacket line) (packetAnswer p m (packetOf line)) (closing 2 0)
+lineAnswer p m line = cond (isPacket line) (packetAnswer p m (octetsIn line)) (closing 2 0)
 
 -- What goes on from a line: one that is no packet line changes nothing.
 unfoldable pub lineAfter : Profile → Station → List ℕ → Station
-lineAfter p m line = cond (isPacket line) (packetAfter p m (packetOf line)) m
+lineAfter p m line = cond (isPacket line) (packetAfter p m (octetsIn line)) m

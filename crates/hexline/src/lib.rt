@@ -8,7 +8,6 @@ ghost use Rattle.hexline.specs.Unit.{lineProfile};
 ghost use Rattle.hexline.specs.Whole.{atFirst};
 
 pub mod feed; // feed.rt: an input that comes in parts
-mod hex; // hex.rt: the text of octets
 pub mod line; // line.rt: what one line is answered
 
 // The most characters of a packet line, and of an answer.

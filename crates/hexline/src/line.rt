@@ -3,32 +3,19 @@ use super::LINE_MOST;
 use super::Written;
 use checks::Verdict;
 use decide::State;
+use lines::NEWLINE;
 use map::Profile;
 ghost use mathlib.Core.Path.{_≡_};
-ghost use mathlib.Core.Bool.{true};
-ghost use mathlib.Core.List.{List, [], _∷_, _++_};
-ghost use Prim.Native.Nat.{_+_, _*_, _<_, _≤_, _^_, min};
-ghost use lib.ListN.{length, take, drop};
+ghost use Prim.Native.Nat.{_+_, _*_, _<_, _^_};
+ghost use lib.ListN.{length};
 ghost use Rattle.octets.specs.Copy.{laid};
 ghost use Rattle.tm.specs.Frame.{cut};
-ghost use Rattle.hexline.specs.Line.{allDigits, isPacket, packetOf, lineOf, linesOf, closing, closingOf, packetAnswer, packetAfter, lineAnswer, lineAfter};
+ghost use Rattle.hexline.specs.Line.{isPacket, lineOf, linesOf, closing, closingOf, packetAnswer, packetAfter, lineAnswer, lineAfter};
 ghost use Rattle.hexline.specs.Whole.{answerRoom};
 ghost use Rattle.hexline.specs.Said.{SaidBy};
 
-// Whether every character of a line is a digit.
-fn all_digits(line: &[u8]) -> bool
-    ensures { λ r. ⌜ r ≡ allDigits (now (line .entry)) ⌝ }
-{
-    let mut i = 0;
-    while i < line.len() {
-        let v = characters::value(line[i]);
-        if 16 <= v {
-            return false;
-        }
-        i += 1;
-    }
-    true
-}
+// How many octets a packet line has at the most.
+const PACKET_ROOM: usize = 2048;
 
 // Whether a line is a packet line: digits only, an even count of them, and at most 4,096.
 pub fn is_packet(line: &[u8]) -> bool
@@ -41,23 +28,7 @@ pub fn is_packet(line: &[u8]) -> bool
     if odd != 0 {
         return false;
     }
-    all_digits(line)
-}
-
-// Writes the octets of a packet line at the front of a buffer, and answers how many they are.
-fn decode(line: &[u8], packet: &mut [u8]) -> usize
-    requires { ⌜ (isPacket (now line) ≡ true) × (length (now packet) ≡ 2048) ⌝ }
-    ensures { λ r. ⌜ (r ≡ length (packetOf (now (line .entry)))) × (now (packet .exit) ≡ laid (now (packet .entry)) 0 (packetOf (now (line .entry)))) ⌝ }
-{
-    let count = line.len() / 2;
-    let mut i = 0;
-    while i < count {
-        let high = characters::value(line[2 * i]);
-        let low = characters::value(line[2 * i + 1]);
-        packet[i] = high * 16 + low;
-        i += 1;
-    }
-    count
+    characters::text::all_digits(line)
 }
 
 // Writes a line of octets, and answers the place behind it.
@@ -65,8 +36,9 @@ fn put_line(text: &mut [u8], at: usize, octets: &[u8]) -> usize
     requires { ⌜ at + (2 * length (now octets) + 1) < 2 ^ 64 ⌝ }
     ensures { λ r. ⌜ (r ≡ at + (2 * length (now (octets .entry)) + 1)) × (now (text .exit) ≡ laid (now (text .entry)) at (lineOf (now (octets .entry)))) ⌝ }
 {
-    let end = super::hex::put_text(text, at, octets);
-    super::hex::put_character(text, end, 10);
+    let end = at + 2 * octets.len();
+    characters::text::put_text(text, at, octets);
+    characters::text::put_character(text, end, NEWLINE);
     end + 1
 }
 
@@ -147,8 +119,9 @@ pub(crate) fn answer_at(
         let end = put_closing(2, 0, text, at);
         return Written { at: end, state };
     }
-    let mut packet = [0u8; 2048];
-    let count = decode(line, &mut packet);
+    let mut packet = [0u8; PACKET_ROOM];
+    characters::text::decode(line, &mut packet);
+    let count = line.len() / 2;
     serve(profile, state, &packet[..count], store, out, text, at)
 }
 

@@ -6,17 +6,15 @@ use mathlib.Core.List.{List, [], _∷_}
 use Prim.Native.Nat.{ℕ, suc, _+_, _-_, _≤_, _<_}
 use native.Mathlib.Omega.{arith}
 use native.Mathlib.Numerals.{add-one}
-use lib.ListN.{length, getD, drop, length-drop, drop-of-length-le}
+use lib.ListN.{length, getD, drop, drop-of-length-le}
 use lib.Seq.{drop-cons}
 use lib.Dec.{eqb}
 use borrow.Author.Tests.{eq-eqb, ne-eqb, lt-ltb, le-ltb}
-use Rattle.laws.proofs.Tests.{by-test}
-use Rattle.laws.proofs.Order.{by-order}
 use Rattle.lines.specs.declared.End.{End}
 use Rattle.lines.specs.declared.End.the-variants.{On, Newline, Last}
 use Rattle.lines.specs.declared.Cut.the-variants.{Piece as Whole, More}
 use Rattle.lines.specs.Lines.{newline}
-use Rattle.lines.specs.Cuts.{nextFrom, nextOf, restOf}
+use Rattle.lines.specs.Cuts.{nextFrom, restOf}
 
 -- ---- the first whole piece
 
@@ -57,20 +55,6 @@ module _ (bound : ℕ) (s : List ℕ) (from at : ℕ) (h : at < length s) where
 
 pub next-past : (bound passed : ℕ) (s : List ℕ) (at : ℕ) → length s ≤ at → nextFrom bound passed (drop at s) ≡ More
 next-past bound passed s at h = ap (λ (r : List ℕ). nextFrom bound passed r) (drop-of-length-le s h) ∙ next-none bound passed
-
--- A whole piece lies in its input.
-inside-from : (bound passed : ℕ) (s : List ℕ) (n : ℕ) (end : End) → nextFrom bound passed s ≡ Whole n end → n ≤ passed + length s
-inside-from bound passed [] n end e = let z : _≡_ {A = ℕ} 0 1 = cc (next-none bound passed) in absurd (omega arith)
-inside-from bound passed (c ∷ s) n end e =
-    by-test (eqb c newline)
-    (λ t. let same : n ≡ passed = cc (next-newline bound passed c s t) in omega arith)
-    (λ t.
-    by-order bound passed
-    (λ k. let same : n ≡ passed = cc (next-on bound passed c s t k) in omega arith)
-    (λ k. let rest : n ≤ suc passed + length s = inside-from bound (suc passed) s n end (sym (next-more bound passed c s t k) ∙ e) in omega arith))
-
-pub next-inside : (bound : ℕ) (s : List ℕ) (at n : ℕ) (end : End) → at ≤ length s → nextOf bound (drop at s) ≡ Whole n end → at + n ≤ length s
-next-inside bound s at n end h e = omega (arith, inside-from bound 0 (drop at s) n end e, length-drop at s)
 
 -- ---- the last piece
 

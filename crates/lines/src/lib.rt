@@ -5,6 +5,9 @@ ghost use lib.ListN.{length, take, drop};
 ghost use Rattle.octets.specs.Copy.{laid};
 ghost use Rattle.lines.specs.Cuts.{started, nextOf, restOf, endsLine, leftOf, passedOf, carriedOf};
 
+// The character that ends a line.
+pub const NEWLINE: u8 = 10;
+
 // How a piece of a line ends: the line goes on behind it, its newline ended it, or the input did.
 pub enum End {
     On,
@@ -93,7 +96,7 @@ pub fn next(input: &[u8], from: usize, bound: usize) -> Cut
     let full = least_sum(from, bound, input.len());
     let mut at = from;
     while at < full {
-        if input[at] == 10 {
+        if input[at] == NEWLINE {
             return Cut::Piece(at - from, End::Newline);
         }
         at += 1;
@@ -101,7 +104,7 @@ pub fn next(input: &[u8], from: usize, bound: usize) -> Cut
     if input.len() <= at {
         return Cut::More;
     }
-    if input[at] == 10 {
+    if input[at] == NEWLINE {
         return Cut::Piece(at - from, End::Newline);
     }
     Cut::Piece(at - from, End::On)

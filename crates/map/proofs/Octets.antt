@@ -4,7 +4,7 @@ use mathlib.Core.Bool.{true}
 use mathlib.Core.Logic.{_⊎_, inl, inr, ⊎-elim}
 use mathlib.Core.Path.{_≡_, refl}
 use mathlib.Core.List.{List}
-use Prim.Native.Nat.{ℕ, _+_, _*_, _^_, _≤_, _<_}
+use Prim.Native.Nat.{ℕ, _+_, _*_, _-_, _^_, _≤_, _<_}
 use native.Mathlib.Omega.{arith}
 use lib.ListN.{length}
 use borrow.Author.Tests.{leb-true}
@@ -101,3 +101,13 @@ unfolding Off octetAt octetsOf wordOctets
 off-block a k start words off h =
     let i = inside-facts a start words h in
     ⊎-elim (λ (l : k < octetsOf a (a .first)). inl (omega arith)) (λ (l : octetsOf a (a .first + a .length) ≤ k). inr (omega arith)) off
+
+-- An address whose word is the same of two areas begins at the same octet.
+pub octet-same : (a b : Area) (x : ℕ) → a .start ≤ b .start → b .start ≤ x → a .first + (b .start - a .start) ≡ b .first → octetAt a x ≡ octetAt b x
+unfolding octetAt octetsOf wordOctets
+octet-same a b x h l e = omega arith
+
+-- From there on the same words of the store are read.
+pub stored-same : (a b : Area) (store : List ℕ) (start words : ℕ) → octetAt a start ≡ octetAt b start → storedAt a store start words ≡ storedAt b store start words
+unfolding storedAt octetsOf
+stored-same a b store start words e = rw e refl

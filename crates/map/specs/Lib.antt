@@ -1,5 +1,3 @@
 pub mod Place
 pub mod Sound
-pub mod Wider
 pub mod Made
-pub mod Examples

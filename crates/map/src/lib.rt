@@ -1,4 +1,4 @@
-// Document 01, "Profile and memory": areas, profiles, when a profile is sound over a store and when one is wider than another.
+// Document 01, "Profile and memory": areas, profiles, and when a profile is sound over a store.
 ghost use mathlib.Core.Path.{_≡_};
 ghost use Prim.Native.Nat.{_+_, _≤_, _^_};
 ghost use lib.ListN.{set};
@@ -6,7 +6,6 @@ ghost use Rattle.map.specs.Place.{octetsOf};
 
 pub mod place; // place.rt: which area has a memory ID, and where its words stand in the store
 pub mod sound; // sound.rt: when a profile is sound over a store
-pub mod wider; // wider.rt: when one profile is wider than another
 
 // What may be done in an area.
 pub struct Rights {
@@ -68,7 +67,7 @@ pub fn set_area(areas: [Area; 8], at: usize, area: Area) -> [Area; 8]
 }
 
 // Where a number of words ends that begins at an address or a store word. It may be 2^32 or more, so it is never worked out in 32 bits.
-fn end_of(from: u32, words: u32) -> u64
+pub fn end_of(from: u32, words: u32) -> u64
     ensures { λ r. ⌜ r ≡ from + words ⌝ }
 {
     (from as u64) + (words as u64)

@@ -1,71 +1,77 @@
 // What each command of `cases` does and prints.
 use commands::form;
-use commands::line;
 use commands::session;
-use commands::session::Out;
 use commands::session::Session;
-use commands::session::Store;
-use commands::text;
-use commands::text::Buffer;
+use printing::text;
+use showing::Served;
+ghost use mathlib.Core.Path.{_≡_};
+ghost use Rattle.octets.specs.Copy.{laid};
+ghost use Rattle.commands.specs.Form.{givenIn, commandIn};
+ghost use Rattle.printing.specs.Text.{SaysBy};
+ghost use Rattle.showing.specs.Shows.{benchOf, ServedBy};
+ghost use Rattle.replies.specs.Does.{does, badText};
 
-mod show; // show.rt: the commands that print
+// What holds the octets that a line gives.
+pub type Octets = [u8; form::GIVEN_MOST];
 
-// Does what the line says, or answers that it is bad, and begins the next.
+// Does what a line says, or answers that it is bad.
 pub fn serve(
     s: Session,
-    octets: &line::Octets,
-    store: &mut Store,
-    out: &mut Out,
-    buffer: &mut Buffer,
-) -> Session {
-    let l = s.line;
-    let next = session::with_line(s, line::start());
-    let given = line::octets_of(l, octets);
-    act(next, form::command(l, given), given, store, out, buffer)
+    line: &[u8],
+    octets: &mut Octets,
+    store: &mut [u8],
+    out: &mut [u8],
+    text: &mut [u8],
+    at: usize,
+) -> Served
+    ensures { λ r. ⌜ ServedBy (does (commandIn (now (line .entry))) (benchOf s store out) (givenIn (now (line .entry)))) at store out text r ⌝ }
+    ensures { λ _. ⌜ now (octets .exit) ≡ laid (now (octets .entry)) 0 (givenIn (now (line .entry))) ⌝ }
+{
+    let digits = form::digits(line);
+    characters::text::decode(digits, octets);
+    let given = lines::front(octets, digits.len() / 2);
+    act(form::asked(line, given), s, given, store, out, text, at)
 }
 
-// A bad line changes nothing.
-fn refuse(s: Session, buffer: &mut Buffer) -> Session {
-    let t = text::bad_line(s.text, buffer);
-    session::with_text(s, t)
+// The answer to a bad line, which changes nothing.
+pub fn refuse(text: &mut [u8], at: usize) -> usize
+    ensures { λ r. ⌜ SaysBy badText at text r ⌝ }
+{
+    text::line(text, at, &[2, 0])
 }
 
-// Each command, given the octets that it takes: those that print, and then those that set.
+// Each command, given the octets that it takes; any other letter is that of a bad line.
 fn act(
-    s: Session,
     letter: u8,
+    s: Session,
     given: &[u8],
-    store: &mut Store,
-    out: &mut Out,
-    buffer: &mut Buffer,
-) -> Session {
+    store: &mut [u8],
+    out: &mut [u8],
+    text: &mut [u8],
+    at: usize,
+) -> Served
+    ensures { λ r. ⌜ ServedBy (does letter (benchOf s store out) (now (given .entry))) at store out text r ⌝ }
+{
     match letter {
-        b'X' => show::answer(s, given, store, out, buffer),
-        b'O' => show::front(s, out, s.room, buffer),
-        b'M' => show::front(s, store, s.stored, buffer),
-        b'R' => show::read(s, given, buffer),
-        b'W' => show::write(s, given, buffer),
-        b'C' => show::control(s, given, buffer),
-        b'V' => show::wider(s, given, buffer),
-        _ => set(s, letter, given, store, out, buffer),
+        b'P' => gives(session::set_profile(s, given), text::kept(text, at)),
+        b'S' => gives(session::set_store(s, given, store), text::kept(text, at)),
+        b'K' => gives(session::set_counts(s, given), text::kept(text, at)),
+        b'T' => gives(session::set_time(s, given), text::kept(text, at)),
+        b'B' => gives(session::set_buffer(s, given, out), text::kept(text, at)),
+        b'X' => showing::answer(s, given, store, out, text, at),
+        b'O' => gives(s, text::line(text, at, lines::front(out, s.room))),
+        b'M' => gives(s, text::line(text, at, lines::front(store, s.stored))),
+        b'R' => gives(s, showing::read(given, text, at)),
+        b'W' => gives(s, showing::write(given, text, at)),
+        b'C' => gives(s, showing::control(given, text, at)),
+        b'V' => gives(s, showing::wider(s, given, text, at)),
+        _ => gives(s, refuse(text, at)),
     }
 }
 
-// The commands that set what stays from line to line; any other letter is that of a bad line.
-fn set(
-    s: Session,
-    letter: u8,
-    given: &[u8],
-    store: &mut Store,
-    out: &mut Out,
-    buffer: &mut Buffer,
-) -> Session {
-    match letter {
-        b'P' => session::set_profile(s, given),
-        b'S' => session::set_store(s, given, store),
-        b'K' => session::set_counts(s, given),
-        b'T' => session::set_time(s, given),
-        b'B' => session::set_buffer(s, given, out),
-        _ => refuse(s, buffer),
-    }
+// A session, and the place behind the text.
+fn gives(session: Session, at: usize) -> Served
+    ensures { λ r. ⌜ r ≡ record { session = session; at = at } ⌝ }
+{
+    Served { session, at }
 }

@@ -1,3 +1,1 @@
 pub mod Judged
-pub mod Ordered
-pub mod RoundTrip

@@ -1,6 +1,6 @@
 -- How many octets are due at most, and where they stand in the output buffer.
 -- Assumes nothing.
-use mathlib.Core.Path.{_≡_, refl, sym, ap, subst, _∙_}
+use mathlib.Core.Path.{_≡_, sym, ap, subst, _∙_}
 use mathlib.Core.Bool.{Bool, true, false}
 use mathlib.Core.List.{List, [], _∷_, _++_, map}
 use Prim.Native.Nat.{ℕ, _+_, _*_, _≤_}
@@ -25,10 +25,10 @@ use Rattle.blocks.proofs.WellFormed.{head-facts, right-bounds}
 use Rattle.tm.specs.Frame.{Report, framesOf}
 use Rattle.tm.specs.Source.{echoOf, failure, dumpHead, checkHead}
 use Rattle.tm.proofs.Frames.{octetsIn, frames-size, size-append}
-use Rattle.decide.specs.declared.Action.the-variants.{Load, Dump, Check}
+use Rattle.requests.specs.declared.Action.the-variants.{Load, Dump, Check}
 use Rattle.decide.specs.declared.Task.{Task}
 use Rattle.decide.specs.declared.Task.the-variants.{Idle, Memory, Connection}
-use Rattle.decide.specs.Request.{carriedBy, mostWords}
+use Rattle.requests.specs.Request.{carriedBy, mostWords}
 use Rattle.decide.specs.Table.{taskOf, FormedFor, Formed}
 use Rattle.decide.proofs.Decided.{heard-facts}
 use Rattle.terminal.specs.Reports.{echo, failed, dumped, entriesOf, asked, asksAcceptance, asksCompletion}
@@ -62,7 +62,7 @@ service-most Idle d store formed = omega arith
 service-most Connection d store formed = omega arith
 service-most (Memory job) d store formed = memory-most (job .action) formed
   where
-    memory-most : (action : Rattle.decide.specs.declared.Action.Action) → Formed action d → octetsIn (memoryDone (job .area) action d store .reports) ≤ serviceMost
+    memory-most : (action : Rattle.requests.specs.declared.Action.Action) → Formed action d → octetsIn (memoryDone (job .area) action d store .reports) ≤ serviceMost
     memory-most Load f = omega arith
     memory-most Dump f =
         omega (

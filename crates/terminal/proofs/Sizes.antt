@@ -15,8 +15,8 @@ use Rattle.tm.specs.Counts.{countFor}
 use Rattle.tm.specs.Frame.{headOf, frameOf, stamped}
 use Rattle.tm.specs.Source.{checkHead}
 use Rattle.tm.proofs.Frame.{head-length}
-use Rattle.decide.specs.declared.Action.the-variants.{Check}
-use Rattle.decide.specs.Request.{carriedBy}
+use Rattle.requests.specs.declared.Action.the-variants.{Check}
+use Rattle.requests.specs.Request.{carriedBy}
 use Rattle.terminal.specs.declared.act.Sender.{Sender}
 use Rattle.terminal.specs.Reports.{entryOf, entriesOf, checked}
 use Rattle.terminal.specs.Act.{checkFirst}

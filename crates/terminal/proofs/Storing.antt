@@ -24,14 +24,14 @@ use Rattle.map.proofs.Octets.{octets-words, off-block}
 use Rattle.blocks.specs.declared.Block.{Block}
 use Rattle.blocks.specs.Blocks.{memoryId, blocksOf, wordsOf}
 use Rattle.blocks.proofs.WellFormed.{right-words}
-use Rattle.decide.specs.declared.Action.{Action}
-use Rattle.decide.specs.declared.Action.the-variants.{Load, Dump, Check}
-use Rattle.decide.specs.declared.Request.the-variants.{Memory as Asks, Connection as Connects}
-use Rattle.decide.specs.declared.Asked.{Asked}
-use Rattle.decide.specs.declared.Asked.the-variants.{Known, Unknown}
+use Rattle.requests.specs.declared.Action.{Action}
+use Rattle.requests.specs.declared.Action.the-variants.{Load, Dump, Check}
+use Rattle.requests.specs.declared.Request.the-variants.{Memory as Asks, Connection as Connects}
+use Rattle.requests.specs.declared.Asked.{Asked}
+use Rattle.requests.specs.declared.Asked.the-variants.{Known, Unknown}
 use Rattle.decide.specs.declared.Task.{Task}
 use Rattle.decide.specs.declared.Task.the-variants.{Idle, Memory, Connection}
-use Rattle.decide.specs.Request.{carriedBy, mostWords, outsideOf}
+use Rattle.requests.specs.Request.{carriedBy, mostWords, outsideOf}
 use Rattle.decide.specs.Table.{serviceRows, askedBy, taskFor, taskOf, Formed}
 use Rattle.decide.proofs.Decided.{accepted-facts, memory-facts}
 use Rattle.terminal.specs.Done.{loaded, memoryDone, done}

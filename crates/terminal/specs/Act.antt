@@ -13,9 +13,9 @@ use Rattle.tm.specs.declared.counts.Counts.{Counts}
 use Rattle.tm.specs.Counts.{countFor}
 use Rattle.tm.specs.Frame.{Report, headOf, framesOf, countsAfter}
 use Rattle.tm.specs.Source.{checkHead}
-use Rattle.decide.specs.declared.Action.the-variants.{Load, Check}
+use Rattle.requests.specs.declared.Action.the-variants.{Load, Check}
 use Rattle.decide.specs.declared.Work.{Work}
-use Rattle.decide.specs.Request.{carriedBy}
+use Rattle.requests.specs.Request.{carriedBy}
 use Rattle.terminal.specs.declared.act.Sender.{Sender}
 use Rattle.terminal.specs.declared.act.Progress.{Progress}
 use Rattle.terminal.specs.Reports.{entryOf, entriesOf}

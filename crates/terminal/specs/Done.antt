@@ -7,11 +7,11 @@ use Rattle.map.specs.Place.{octetAt}
 use Rattle.blocks.specs.declared.Block.{Block}
 use Rattle.blocks.specs.Blocks.{memoryId, blockCount, blocksOf, wordsOf}
 use Rattle.tm.specs.Frame.{Report}
-use Rattle.decide.specs.declared.Action.{Action}
-use Rattle.decide.specs.declared.Action.the-variants.{Load, Dump, Check}
+use Rattle.requests.specs.declared.Action.{Action}
+use Rattle.requests.specs.declared.Action.the-variants.{Load, Dump, Check}
 use Rattle.decide.specs.declared.Task.{Task}
 use Rattle.decide.specs.declared.Task.the-variants.{Idle, Memory, Connection}
-use Rattle.decide.specs.Request.{carriedBy}
+use Rattle.requests.specs.Request.{carriedBy}
 use Rattle.terminal.specs.Reports.{dumped, checked, connected}
 
 -- What was done: the service's reports, and the store afterwards.

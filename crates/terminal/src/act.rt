@@ -1,11 +1,11 @@
 // Acts on a decision: lays the reports due into the output buffer, one after another, and writes a load's words into the store.
 use blocks::Block;
 use checks::Verdict;
-use decide::Action;
 use decide::Job;
 use decide::Task;
 use decide::Work;
 use map::Area;
+use requests::Action;
 use tm::Stamp;
 use tm::counts::Counts;
 ghost use mathlib.Core.Path.{_≡_};
@@ -15,7 +15,7 @@ ghost use lib.ListN.{length};
 ghost use Rattle.octets.specs.Copy.{laid, placed};
 ghost use Rattle.tm.specs.Counts.{counted};
 ghost use Rattle.map.specs.Place.{dumpWords};
-ghost use Rattle.decide.specs.declared.Action.the-variants.{Load, Dump, Check};
+ghost use Rattle.requests.specs.declared.Action.the-variants.{Load, Dump, Check};
 ghost use Rattle.decide.specs.Table.{Formed, FormedFor};
 ghost use Rattle.terminal.specs.Reports.{echo, failed, connected, dumped, asked};
 ghost use Rattle.terminal.specs.Done.{memoryDone, done};
@@ -148,7 +148,7 @@ fn load(area: Area, application: &[u8], store: &mut [u8])
 fn load_block(area: Area, application: &[u8], place: usize, store: &mut [u8]) -> usize
     ensures { λ r. ⌜ LoadsBlock area (now (application .entry)) place (now (store .entry)) r (now (store .exit)) ⌝ }
 {
-    let carried = decide::carried_by(Action::Load);
+    let carried = requests::carried_by(Action::Load);
     let block = blocks::reading::block_at(carried, application, place);
     let at = map::place::octet_at(area, block.start);
     octets::copy::put(store, at, blocks::reading::words(application, block));
@@ -167,7 +167,7 @@ fn dump(
     requires { ⌜ (p .at ≤ echoSize) × Formed Dump (now application) ⌝ }
     ensures { λ r. ⌜ Did serviceMost sender p r (now (out .entry)) (now (out .exit)) (memoryDone area Dump (now (application .entry)) (now (store .entry)) .reports) ⌝ }
 {
-    let carried = decide::carried_by(Action::Dump);
+    let carried = requests::carried_by(Action::Dump);
     let memory = blocks::reading::memory_id(application);
     let count = blocks::reading::block_count(application);
     let mut q = p;
@@ -242,7 +242,7 @@ fn entry(
 ) -> usize
     ensures { λ r. ⌜ LaysEntry area (now (application .entry)) place (now (store .entry)) at (now (out .entry)) r (now (out .exit)) ⌝ }
 {
-    let carried = decide::carried_by(Action::Check);
+    let carried = requests::carried_by(Action::Check);
     let block = blocks::reading::block_at(carried, application, place);
     let covered = map::place::stored(area, store, block.start, block.words as u32);
     let octets = tm::check_entry(block.start, block.words, crc::crc(covered));

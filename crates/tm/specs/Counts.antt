@@ -1,7 +1,9 @@
 -- Document 01, "Each category has its own count, starting at 0, and 16,383 is followed by 0".
 use mathlib.Core.Bool.{Bool, cond, _&&_}
+use mathlib.Core.List.{List}
 use Prim.Native.Nat.{ℕ, _+_, _%_}
 use lib.Dec.{eqb, leb}
+use Rattle.octets.specs.Numbers.{word16}
 use Rattle.tm.specs.declared.counts.Counts.{Counts}
 
 -- The largest count, of 14 bits.
@@ -34,6 +36,13 @@ inRange c = leb (c .reports) countMost && leb (c .services) countMost
 -- At the start every count is 0.
 abbrev pub noCounts : Counts
 noCounts = record { reports = 0; services = 0 }
+
+-- How many octets the counts are, two for each category, and the counts that some octets state; octets past the end count as 0.
+abbrev pub countsOctets : ℕ
+countsOctets = 4
+
+abbrev pub countsIn : List ℕ → Counts
+countsIn s = record { reports = word16 s 0; services = word16 s 2 }
 
 -- The count that a report of a service is stamped with, and the counts after it: those of its category.
 abbrev pub countFor : Counts → ℕ → ℕ

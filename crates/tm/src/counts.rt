@@ -1,6 +1,6 @@
 // The counts of the terminal's reports, one for each category. 16,383 is followed by 0.
 ghost use mathlib.Core.Path.{_≡_};
-ghost use Rattle.tm.specs.Counts.{noCounts, nextCount, categoryOf, countFor, counted, inRange};
+ghost use Rattle.tm.specs.Counts.{noCounts, countsIn, nextCount, categoryOf, countFor, counted, inRange};
 
 // A count for each category.
 pub struct Counts {
@@ -9,6 +9,9 @@ pub struct Counts {
     // Of category 9: services 6 and 17.
     pub services: u16,
 }
+
+// How many octets the counts are, two for each category.
+pub const OCTETS: usize = 4;
 
 // How many counts there are.
 const COUNTS: u16 = 16384;
@@ -25,6 +28,16 @@ pub fn none() -> Counts
     Counts {
         reports: 0,
         services: 0,
+    }
+}
+
+// The counts that some octets state, category by category; octets past the end count as 0.
+pub fn counts_in(s: &[u8]) -> Counts
+    ensures { λ r. ⌜ r ≡ countsIn (now (s .entry)) ⌝ }
+{
+    Counts {
+        reports: octets::numbers::word16_at(s, 0),
+        services: octets::numbers::word16_at(s, 2),
     }
 }
 

@@ -1,15 +1,19 @@
--- `cases::run` is safe and ends: the turns that are left are counted down.
+-- `cases::run` meets its contract.
 -- Assumes nothing.
-use native.Mathlib.Omega.{arith}
+use mathlib.Core.Path.{_≡_}
+use lib.ListN.{length}
 use borrow.Author.Needs.{needs}
 use Rattle.cases.proofs.run.Statement.{statement}
 use Rattle.cases.proofs.run.Tie as tie
 
 abbrev Inv-loop : tie.InvT-loop
-Inv-loop input₀ octets₀ store₀ out₀ buffer₀ turns₀ t₀ input octets store out buffer turns t = Unit {0}
+Inv-loop input₀ octets₀ store₀ out₀ text₀ turns₀ t₀ input octets store out text turns t = (length store ≡ length store₀) × (length out ≡ length out₀)
 
 abbrev μ-loop : tie.MeasureT-loop
-μ-loop input₀ octets₀ store₀ out₀ buffer₀ turns₀ t₀ input octets store out buffer turns t = turns
+μ-loop input₀ octets₀ store₀ out₀ text₀ turns₀ t₀ input octets store out text turns t = turns
+
+profile-requires : tie.Need-profile-requires Inv-loop μ-loop
+profile-requires c κs = search needs
 
 start-requires : tie.Need-start-requires Inv-loop μ-loop
 start-requires c κs = search needs
@@ -29,8 +33,20 @@ loop-less c = search needs
 loop-again : tie.Need-loop-again Inv-loop μ-loop
 loop-again c = search needs
 
+same-length : tie.Need-same-length Inv-loop μ-loop
+same-length c = search needs
+
+same-length-2 : tie.Need-same-length-2 Inv-loop μ-loop
+same-length-2 c = search needs
+
 returns : tie.Need-returns Inv-loop μ-loop
 returns c = search needs
+
+same-length-3 : tie.Need-same-length-3 Inv-loop μ-loop
+same-length-3 c = search needs
+
+same-length-4 : tie.Need-same-length-4 Inv-loop μ-loop
+same-length-4 c = search needs
 
 returns-2 : tie.Need-returns-2 Inv-loop μ-loop
 returns-2 c = search needs
@@ -41,11 +57,16 @@ run-spec =
     (tie.spec
     Inv-loop
     μ-loop
+    profile-requires
     start-requires
     loop-holds
     turn-requires
     sub-turns
     loop-less
     loop-again
+    same-length
+    same-length-2
     returns
+    same-length-3
+    same-length-4
     returns-2)

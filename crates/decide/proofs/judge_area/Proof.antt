@@ -6,7 +6,7 @@ use denote.Ref.{now}
 use Rattle.laws.proofs.Tests.{refused, passed}
 use Rattle.blocks.specs.Blocks.{blocksOf}
 use Rattle.checks.specs.declared.Check.the-variants.{Right}
-use Rattle.decide.specs.Request.{carriedBy, outsideOf}
+use Rattle.requests.specs.Request.{carriedBy, outsideOf}
 use Rattle.decide.proofs.Checked.{failing}
 use Rattle.decide.proofs.Serving.{area-right, area-outside, area-accepts}
 use borrow.Author.Needs.{needs}

@@ -8,7 +8,7 @@ use Rattle.laws.proofs.Tests.{refused, passed}
 use Rattle.map.specs.Place.{findIn, used}
 use Rattle.blocks.specs.Form.{headRight, formOf}
 use Rattle.checks.specs.declared.Check.the-variants.{Memory}
-use Rattle.decide.specs.Request.{carriedBy, mostWords, areaNamed}
+use Rattle.requests.specs.Request.{carriedBy, mostWords, areaNamed}
 use Rattle.decide.proofs.Checked.{failing}
 use Rattle.decide.proofs.Serving.{memory-head, memory-form, memory-none, memory-area}
 use borrow.Author.Needs.{needs}

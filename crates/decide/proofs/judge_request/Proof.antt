@@ -8,8 +8,8 @@ use Rattle.octets.specs.Copy.{placed}
 use Rattle.octets.specs.Fields.{apidOf}
 use Rattle.tc.specs.Layout.{category}
 use Rattle.checks.specs.declared.Check.the-variants.{Subtype}
-use Rattle.decide.specs.declared.Asked.{Asked}
-use Rattle.decide.specs.Request.{serves, offers}
+use Rattle.requests.specs.declared.Asked.{Asked}
+use Rattle.requests.specs.Request.{serves, offers}
 use Rattle.decide.specs.Table.{askedBy, serviceDecision}
 use Rattle.decide.proofs.Checked.{failing}
 use Rattle.decide.proofs.Serving.{request-apid, request-service, request-subtype, request-served}

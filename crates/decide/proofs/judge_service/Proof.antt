@@ -6,10 +6,10 @@ use Prim.Native.Nat.{ℕ}
 use denote.Ref.{now}
 use Rattle.octets.specs.Copy.{placed}
 use Rattle.checks.specs.Table.{answer}
-use Rattle.decide.specs.declared.Asked.{Asked}
-use Rattle.decide.specs.declared.Asked.the-variants.{Known}
-use Rattle.decide.specs.declared.Request.{Request}
-use Rattle.decide.specs.declared.Request.the-variants.{Memory, Connection}
+use Rattle.requests.specs.declared.Asked.{Asked}
+use Rattle.requests.specs.declared.Asked.the-variants.{Known}
+use Rattle.requests.specs.declared.Request.{Request}
+use Rattle.requests.specs.declared.Request.the-variants.{Memory, Connection}
 use Rattle.decide.specs.Table.{memoryDecision, connectionDecision, serviceDecision}
 use borrow.Author.Needs.{needs}
 use Rattle.decide.proofs.judge_service.Statement.{statement}

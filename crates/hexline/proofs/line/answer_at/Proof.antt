@@ -5,7 +5,8 @@ use Rattle.hexline.specs.Line.{isPacket}
 use denote.Ref.{now}
 use borrow.Author.Tests.{not-true, not-false}
 use lib.Seq.{length-take-le}
-use lib.ListN.{take, replicate}
+use lib.ListN.{length, take, replicate}
+use Prim.Native.Nat.{_/_}
 use mathlib.Core.Bool.{true}
 use mathlib.Core.Path.{_≡_, refl, sym, _∙_}
 use borrow.Author.Needs.{needs}
@@ -17,8 +18,8 @@ good : (e : tie.Else1) → isPacket (now (e .before .before .before .before .bef
 good e = sym (e .before .is-packet .ensures) ∙ not-false _ (e .if1 .left)
 
 -- its octets stand at the front of the packet buffer
-read : (d : tie.After-decode) → Decoded (now (d .before .before .before .before .before .before .before .before .args .line)) (d .decode .last .1 .0) (d .decode .result)
-read d = decoded (now (d .before .before .before .before .before .before .before .before .args .line)) (replicate 2048 0) (d .decode .last .1 .0) (d .decode .result) (good (d .before .before)) refl (d .decode .ensures .0) (d .decode .ensures .1)
+read : (d : tie.After-decode) → Decoded (now (d .before .before .before .before .before .before .before .before .args .line)) (d .decode .last .1 .0) (length (now (d .before .before .before .before .before .before .before .before .args .line)) / 2)
+read d = decoded (now (d .before .before .before .before .before .before .before .before .args .line)) (replicate 2048 0) (d .decode .last .1 .0) _ (good (d .before .before)) refl refl (d .decode .ensures)
 
 is-packet-requires : tie.Need-is-packet-requires
 is-packet-requires c κs = search needs
@@ -41,13 +42,13 @@ slice-aggregate-decode : tie.Need-slice-aggregate-decode
 slice-aggregate-decode c = search needs
 
 decode-requires : tie.Need-decode-requires
-decode-requires c κs = (good (c .before), refl)
+decode-requires c κs = search needs
 
 array-share-prefix-packet : tie.Need-array-share-prefix-packet
 array-share-prefix-packet c = read (c .before) .inside
 
 slice-aggregate-serve : tie.Need-slice-aggregate-serve
-slice-aggregate-serve c = sym (length-take-le (c .before .before .decode .result) (c .before .before .decode .last .1 .0) (read (c .before .before) .inside))
+slice-aggregate-serve c = sym (length-take-le _ (c .before .before .decode .last .1 .0) (read (c .before .before) .inside))
 
 serve-requires : tie.Need-serve-requires
 serve-requires c κs = search needs
@@ -67,7 +68,7 @@ returns-2 c =
     let d = v .before .before .before .before .before .before in
     let e = d .before .before in
     let a = e .before .before .before .before .before .before .args in
-    line-served (a .profile) (record { machine = record { state = a .state; store = now (a .store) }; out = now (a .out) }) (now (a .line)) (take (d .decode .result) (d .decode .last .1 .0)) (a .at) (now (a .text))
+    line-served (a .profile) (record { machine = record { state = a .state; store = now (a .store) }; out = now (a .out) }) (now (a .line)) (take (length (now (a .line)) / 2) (d .decode .last .1 .0)) (a .at) (now (a .text))
     (v .serve .result) (v .serve .last .1 .1 .1 .0) (v .serve .last .1 .1 .1 .1 .0) (v .serve .last .1 .1 .1 .1 .1 .0) (good e) (read d .octets) (v .serve .ensures)
 
 pub answer-at-spec : {M : Type 1} → statement M

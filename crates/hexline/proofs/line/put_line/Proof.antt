@@ -2,10 +2,19 @@
 -- Assumes nothing.
 use Rattle.hexline.proofs.Cutting.{line-laid}
 use denote.Ref.{now}
+use lib.ListN.{length}
+use Prim.Native.Nat.{_+_, _*_}
+use mathlib.Core.Path.{refl}
 use native.Mathlib.Omega.{arith}
 use borrow.Author.Needs.{needs}
 use Rattle.hexline.proofs.line.put_line.Statement.{statement}
 use Rattle.hexline.proofs.line.put_line.Tie as tie
+
+mul-end : tie.Need-mul-end
+mul-end c = search needs
+
+add-end : tie.Need-add-end
+add-end c = search needs
 
 put-text-requires : tie.Need-put-text-requires
 put-text-requires c κs = search needs
@@ -24,10 +33,10 @@ returns c =
     let k = c .before .before in
     let f = k .before .before .before .before in
     let a = c .before .before .before .before .before .before .before .before .before .before .args in (
-      omega (arith, f .put-text .ensures .0),
-      line-laid (now (a .text)) (f .put-text .last .0) (k .put-character .last .0) (a .at) (f .put-text .result) (now (a .octets)) (f .put-text .ensures .0) (f .put-text .ensures .1) (k .put-character .ensures),
+      omega arith,
+      line-laid (now (a .text)) (f .put-text .last .0) (k .put-character .last .0) (a .at) (a .at + 2 * length (now (a .octets))) (now (a .octets)) refl (f .put-text .ensures) (k .put-character .ensures),
     )
 
 pub put-line-spec : {M : Type 1} → statement M
 put-line-spec =
-    tie.close (tie.spec put-text-requires put-character-requires add-result same-length returns)
+    tie.close (tie.spec mul-end add-end put-text-requires put-character-requires add-result same-length returns)

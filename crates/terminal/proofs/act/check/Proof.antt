@@ -12,8 +12,8 @@ use Rattle.octets.proofs.Laid.{laid-append}
 use Rattle.blocks.specs.Blocks.{firstPlace, blockCount, blocksOf}
 use Rattle.blocks.proofs.Blocks.{blocks-length}
 use Rattle.blocks.proofs.WellFormed.{head-facts}
-use Rattle.decide.specs.declared.Action.the-variants.{Check}
-use Rattle.decide.specs.Request.{carriedBy}
+use Rattle.requests.specs.declared.Action.the-variants.{Check}
+use Rattle.requests.specs.Request.{carriedBy}
 use Rattle.terminal.specs.Reports.{entriesOf}
 use Rattle.terminal.specs.Act.{echoSize, checkFirst}
 use Rattle.terminal.proofs.Steps.{did-one}

@@ -11,8 +11,8 @@ use Rattle.blocks.specs.declared.Block.{Block}
 use Rattle.blocks.specs.Blocks.{memoryId, blockCount, blockAt}
 use Rattle.blocks.specs.Form.{blocksMost}
 use Rattle.blocks.proofs.WellFormed.{head-facts, right-bounds}
-use Rattle.decide.specs.declared.Action.the-variants.{Dump}
-use Rattle.decide.specs.Request.{carriedBy, mostWords}
+use Rattle.requests.specs.declared.Action.the-variants.{Dump}
+use Rattle.requests.specs.Request.{carriedBy, mostWords}
 use Rattle.terminal.specs.Reports.{dumped}
 use Rattle.terminal.proofs.Walks.{Dumping, dumping-first, dumping-small, dumping-next, dumping-last}
 use Rattle.terminal.proofs.act.dump.Statement.{statement}

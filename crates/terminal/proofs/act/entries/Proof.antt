@@ -12,8 +12,8 @@ use Rattle.octets.specs.Copy.{laid}
 use Rattle.blocks.specs.declared.Block.{Block}
 use Rattle.blocks.specs.Blocks.{blockCount, blocksOf}
 use Rattle.blocks.proofs.Walk.{left, left-all}
-use Rattle.decide.specs.declared.Action.the-variants.{Check}
-use Rattle.decide.specs.Request.{carriedBy}
+use Rattle.requests.specs.declared.Action.the-variants.{Check}
+use Rattle.requests.specs.Request.{carriedBy}
 use Rattle.terminal.specs.Reports.{entriesOf}
 use Rattle.terminal.proofs.Walks.{entries-step, entries-none}
 use Rattle.terminal.proofs.act.entries.Statement.{statement}

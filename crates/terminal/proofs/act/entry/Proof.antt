@@ -10,8 +10,8 @@ use Rattle.crc.specs.Register.{crcOf}
 use Rattle.blocks.specs.declared.Block.{Block}
 use Rattle.blocks.specs.Blocks.{blockAt}
 use Rattle.tm.specs.Source.{checkEntry}
-use Rattle.decide.specs.declared.Action.the-variants.{Check}
-use Rattle.decide.specs.Request.{carriedBy}
+use Rattle.requests.specs.declared.Action.the-variants.{Check}
+use Rattle.requests.specs.Request.{carriedBy}
 use Rattle.terminal.specs.Reports.{entryOf}
 use Rattle.terminal.proofs.act.entry.Statement.{statement}
 use Rattle.terminal.proofs.act.entry.Tie as tie

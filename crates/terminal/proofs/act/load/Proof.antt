@@ -10,8 +10,8 @@ use borrow.Author.Needs.{needs}
 use Rattle.blocks.specs.declared.Block.{Block}
 use Rattle.blocks.specs.Blocks.{blockCount, blocksOf}
 use Rattle.blocks.proofs.Walk.{left, left-all}
-use Rattle.decide.specs.declared.Action.the-variants.{Load}
-use Rattle.decide.specs.Request.{carriedBy}
+use Rattle.requests.specs.declared.Action.the-variants.{Load}
+use Rattle.requests.specs.Request.{carriedBy}
 use Rattle.terminal.specs.Done.{loaded}
 use Rattle.terminal.proofs.Walks.{loaded-none, loaded-step}
 use Rattle.terminal.proofs.act.load.Statement.{statement}

@@ -9,8 +9,8 @@ use Rattle.octets.specs.Copy.{laid}
 use Rattle.map.specs.Place.{octetAt}
 use Rattle.blocks.specs.declared.Block.{Block}
 use Rattle.blocks.specs.Blocks.{blockAt, wordsOf}
-use Rattle.decide.specs.declared.Action.the-variants.{Load}
-use Rattle.decide.specs.Request.{carriedBy}
+use Rattle.requests.specs.declared.Action.the-variants.{Load}
+use Rattle.requests.specs.Request.{carriedBy}
 use Rattle.terminal.proofs.act.load_block.Statement.{statement}
 use Rattle.terminal.proofs.act.load_block.Tie as tie
 

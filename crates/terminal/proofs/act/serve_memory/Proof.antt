@@ -5,7 +5,7 @@ use mathlib.Core.Path.{_≡_, refl, subst}
 use Prim.Native.Nat.{ℕ}
 use denote.Ref.{now}
 use borrow.Author.Needs.{needs}
-use Rattle.decide.specs.declared.Action.{Action}
+use Rattle.requests.specs.declared.Action.{Action}
 use Rattle.decide.specs.Table.{Formed}
 use Rattle.terminal.specs.declared.act.Progress.{Progress}
 use Rattle.terminal.specs.Done.{memoryDone}

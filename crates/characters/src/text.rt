@@ -1,0 +1,75 @@
+// The text of octets written into a buffer, and the octets of a text.
+ghost use mathlib.Core.Path.{_≡_};
+ghost use Prim.Native.Nat.{_+_, _/_, _<_};
+ghost use lib.ListN.{length, set};
+ghost use Rattle.octets.specs.Copy.{laid};
+ghost use Rattle.characters.specs.Digits.{digitOf, textOf, allDigits, octetsIn};
+
+// Sets a character of a text; past the end it is dropped.
+pub fn put_character(text: &mut [u8], at: usize, c: u8)
+    ensures { λ _. ⌜ now (text .exit) ≡ set (now (text .entry)) at c ⌝ }
+{
+    if at < text.len() {
+        text[at] = c;
+    }
+}
+
+// Writes the two digits of an octet; what would stand past the end is dropped.
+fn put_octet(text: &mut [u8], at: usize, x: u8)
+    requires { ⌜ at < length (now text) ⌝ }
+    ensures { λ _. ⌜ now (text .exit) ≡ set (set (now (text .entry)) at (digitOf (x / 16))) (at + 1) (digitOf x) ⌝ }
+{
+    put_character(text, at, crate::digit(x / 16));
+    put_character(text, at + 1, crate::digit(x));
+}
+
+// Writes the text of octets from a place on; what would stand past the end is dropped.
+pub fn put_text(text: &mut [u8], at: usize, octets: &[u8])
+    ensures { λ _. ⌜ now (text .exit) ≡ laid (now (text .entry)) at (textOf (now (octets .entry))) ⌝ }
+{
+    let mut place = at;
+    let mut i = 0;
+    while i < octets.len() {
+        if text.len() <= place {
+            return;
+        }
+        put_octet(text, place, octets[i]);
+        if text.len() - place < 2 {
+            return;
+        }
+        place += 2;
+        i += 1;
+    }
+}
+
+// Whether every character of a text is a digit.
+pub fn all_digits(text: &[u8]) -> bool
+    ensures { λ r. ⌜ r ≡ allDigits (now (text .entry)) ⌝ }
+{
+    let mut i = 0;
+    while i < text.len() {
+        let v = crate::value(text[i]);
+        if 16 <= v {
+            return false;
+        }
+        i += 1;
+    }
+    true
+}
+
+// Lays the octets of a text at the front of a buffer; those that would stand past its end are dropped.
+pub fn decode(text: &[u8], octets: &mut [u8])
+    ensures { λ _. ⌜ now (octets .exit) ≡ laid (now (octets .entry)) 0 (octetsIn (now (text .entry))) ⌝ }
+{
+    let count = text.len() / 2;
+    let mut i = 0;
+    while i < count {
+        if octets.len() <= i {
+            return;
+        }
+        let high = crate::value(text[2 * i]);
+        let low = crate::value(text[2 * i + 1]);
+        octets[i] = high % 16 * 16 + low % 16;
+        i += 1;
+    }
+}

@@ -1,0 +1,131 @@
+// The commands that print what the terminal, the reader, the writer, the CRC or the profiles answer.
+use commands::session;
+use commands::session::Session;
+use printing::answer;
+use printing::text;
+use terminal::Outcome;
+use writer::Order;
+use writer::Written;
+ghost use mathlib.Core.Path.{_≡_};
+ghost use Prim.Native.Nat.{min};
+ghost use Rattle.printing.specs.Text.{SaysBy};
+ghost use Rattle.writer.specs.Writer.{Writes};
+ghost use Rattle.showing.specs.Shows.{benchOf, inputAt, AnsweredAt, ServedBy, answering, readText, orderIn, dataIn, writeText, controlText, widerText};
+
+// The longest buffer that the writer is given.
+const PACKET_ROOM: usize = 65536;
+
+// The session, and the place behind the text.
+pub struct Served {
+    pub session: Session,
+    pub at: usize,
+}
+
+// X: the terminal answers a packet.
+pub fn answer(
+    s: Session,
+    packet: &[u8],
+    store: &mut [u8],
+    out: &mut [u8],
+    text: &mut [u8],
+    at: usize,
+) -> Served
+    ensures { λ r. ⌜ ServedBy (answering (benchOf s store out) (now (packet .entry))) at store out text r ⌝ }
+{
+    let outcome = answered(s, packet, store, out);
+    let written = outcome.written;
+    let state = outcome.state;
+    let v = outcome.verdict;
+    let frames = text::line(text, at, lines::front(out, written));
+    let verdict = answer::put_verdict(text, frames, v);
+    let last = answer::put_counts(text, verdict, written, state);
+    let session = session::with_state(s, state);
+    Served { session, at: last }
+}
+
+// The terminal's answer, over the store and the output buffer as long as they are now.
+fn answered(s: Session, packet: &[u8], store: &mut [u8], out: &mut [u8]) -> Outcome
+    ensures { λ r. ⌜ AnsweredAt (inputAt (benchOf s store out) (now (packet .entry))) store out r ⌝ }
+{
+    let stored = least(s.stored, store.len());
+    let room = least(s.room, out.len());
+    let time = s.time;
+    terminal::answer(
+        s.profile,
+        s.state,
+        time,
+        packet,
+        &mut store[..stored],
+        &mut out[..room],
+    )
+}
+
+// The lesser of two numbers.
+fn least(a: usize, b: usize) -> usize
+    ensures { λ r. ⌜ r ≡ min a b ⌝ }
+{
+    if a < b { a } else { b }
+}
+
+// R: the reader reads a packet.
+pub fn read(packet: &[u8], text: &mut [u8], at: usize) -> usize
+    ensures { λ r. ⌜ SaysBy (readText (now (packet .entry))) at text r ⌝ }
+{
+    let reading = tc::reader::read(packet);
+    let v = reading.verdict;
+    let verdict = answer::put_verdict(text, at, v);
+    let fields = answer::put_fields(text, verdict, reading.fields);
+    let data = reading.data;
+    text::last(text, fields, octets::copy::placed(packet, data))
+}
+
+// W: the writer writes a packet into a buffer of the length asked for, each octet EE before.
+pub fn write(given: &[u8], text: &mut [u8], at: usize) -> usize
+    ensures { λ r. ⌜ SaysBy (writeText (now (given .entry))) at text r ⌝ }
+{
+    let mut packet = [0xEEu8; PACKET_ROOM];
+    let room = octets::numbers::word16_at(given, 6) as usize;
+    let written = written_into(given, &mut packet[..room]);
+    let code = answer::put_written(text, at, written);
+    text::last(text, code, &packet[..room])
+}
+
+// The writer's answer to the order at the front of some octets, over a buffer.
+fn written_into(given: &[u8], buffer: &mut [u8]) -> Written
+    ensures { λ r. ⌜ Writes (orderIn (now (given .entry))) (dataIn (now (given .entry))) (now (buffer .entry)) r (now (buffer .exit)) ⌝ }
+{
+    writer::write(
+        order_in(given),
+        octets::copy::part(given, 8, given.len()),
+        buffer,
+    )
+}
+
+// The order at the front of some octets: PID, count, ack, type, subtype.
+fn order_in(given: &[u8]) -> Order
+    ensures { λ r. ⌜ r ≡ orderIn (now (given .entry)) ⌝ }
+{
+    Order {
+        pid: session::one(given, 0),
+        count: octets::numbers::word16_at(given, 1),
+        ack: session::one(given, 3),
+        kind: session::one(given, 4),
+        subtype: session::one(given, 5),
+    }
+}
+
+// C: the CRC of some octets.
+pub fn control(given: &[u8], text: &mut [u8], at: usize) -> usize
+    ensures { λ r. ⌜ SaysBy (controlText (now (given .entry))) at text r ⌝ }
+{
+    let two = octets::numbers::octets_of16(crc::crc(given));
+    text::line(text, at, &two)
+}
+
+// V: whether a profile is wider than the one that stands, over the store that stands.
+pub fn wider(s: Session, given: &[u8], text: &mut [u8], at: usize) -> usize
+    ensures { λ r. ⌜ SaysBy (widerText s (now (given .entry))) at text r ⌝ }
+{
+    let is = wider::is_wider(session::profile_in(given), s.profile, s.stored);
+    text::line(text, at, &[if is { 1 } else { 0 }])
+}

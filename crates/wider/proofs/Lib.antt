@@ -1,0 +1,4 @@
+pub mod Keeping
+pub mod Covering
+pub mod Widening
+pub mod Unused
