@@ -59,7 +59,7 @@ fn run(input: &mut Input, octets: &mut Octets, store: &mut [u8], out: &mut [u8],
     let mut turns = u64::MAX;
     let mut t = Next {
         on: true,
-        session: session::start(hexline::profile()),
+        session: session::start(lineunit::profile()),
         have: 0,
         begins: true,
     };

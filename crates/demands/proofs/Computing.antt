@@ -17,8 +17,7 @@ use Rattle.tm.specs.Counts.{categoryOf, countIn, advanced, inRange}
 use Rattle.tm.specs.Frame.{headOf as frameHeadOf, frameOf, stamped, framesOf, countsAfter}
 use Rattle.requests.specs.Request.{serves, memoryAsked, askedFor, outsideOf}
 use Rattle.decide.specs.Table.{callerRight, callerRows, areaRows, memoryRows, connectionRows, requestRows, rows, decided}
-use Rattle.terminal.specs.Reports.{entriesOf}
-use Rattle.terminal.specs.Done.{loaded}
+use Rattle.memory.specs.Memory.{entriesOf, loaded}
 use Rattle.terminal.specs.Outcome.{reportsFor, reportsDue, storeAfter, framesDue, outcomeOf, outAfter, storeOn}
 use Rattle.characters.specs.Digits.{valueOf, digitOf, textOf, allDigits, octetsIn}
 use Rattle.lines.specs.Lines.{linesOf}

@@ -23,7 +23,7 @@ use Rattle.map.specs.declared.Profile.{Profile}
 use Rattle.tm.specs.declared.counts.Counts.{Counts}
 use Rattle.tm.specs.Counts.{nextCount, categoryOf, countIn}
 use Rattle.tm.specs.Frame.{frameOf, stamped}
-use Rattle.tm.specs.Source.{echoOf, failure}
+use Rattle.reports.specs.Source.{echoOf, failure}
 use Rattle.requests.specs.declared.Request.the-variants.{Memory, Connection}
 use Rattle.requests.specs.declared.Asked.{Asked}
 use Rattle.requests.specs.declared.Asked.the-variants.{Known, Unknown}

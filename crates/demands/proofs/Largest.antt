@@ -8,7 +8,7 @@ use Rattle.octets.specs.Copy.{between}
 use Rattle.checks.specs.declared.Verdict.the-variants.{Accepted}
 use Rattle.map.specs.Made.{allFlags, areaOf, profileWith}
 use Rattle.terminal.specs.Outcome.{Input, input, octetsDue, outcomeOf}
-use Rattle.hexline.specs.Unit.{lineTime, lineOut}
+use Rattle.lineunit.specs.Unit.{lineTime, lineOut}
 use Rattle.demands.proofs.Computing.{all}
 use Rattle.demands.proofs.Packets.{from}
 

@@ -20,7 +20,7 @@ use Rattle.decide.specs.declared.State.{State}
 use Rattle.requests.specs.declared.Action.the-variants.{Dump}
 use Rattle.requests.specs.Request.{carriedBy, mostWords}
 use Rattle.terminal.specs.Outcome.{verdictOn, octetsDue, outcomeOf}
-use Rattle.hexline.specs.Unit.{lineArea}
+use Rattle.lineunit.specs.Unit.{lineArea}
 use Rattle.demands.proofs.Computing.{all}
 use Rattle.demands.proofs.Packets.{command, block, firstLine, secondLine, from, lineInput, over}
 

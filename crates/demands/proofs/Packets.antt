@@ -8,7 +8,7 @@ use Rattle.writer.specs.Writer.{fieldsFor}
 use Rattle.map.specs.declared.Profile.{Profile}
 use Rattle.decide.specs.declared.State.{State}
 use Rattle.terminal.specs.Outcome.{Input, input}
-use Rattle.hexline.specs.Unit.{lineProfile, lineTime, lineStore, lineOut}
+use Rattle.lineunit.specs.Unit.{lineProfile, lineTime, lineStore, lineOut}
 
 -- A telecommand of a type and subtype to PID 5, count 0, that asks for both reports.
 abbrev pub command : ℕ → ℕ → List ℕ → List ℕ

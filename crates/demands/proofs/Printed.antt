@@ -4,7 +4,7 @@ use mathlib.Core.Path.{_≡_, refl}
 use mathlib.Core.List.{List, [], _∷_}
 use Prim.Native.Nat.{ℕ}
 use Rattle.lines.specs.Feed.{outputOf}
-use Rattle.hexline.specs.Unit.{lineProfile}
+use Rattle.lineunit.specs.Unit.{lineProfile}
 use Rattle.hexline.specs.Whole.{lineProgram, first}
 use Rattle.demands.proofs.Computing.{all}
 

@@ -31,8 +31,9 @@ use Rattle.requests.specs.declared.Asked.the-variants.{Known, Unknown}
 use Rattle.requests.specs.Request.{rightFor, carriedBy, isFound, outsideOf}
 use Rattle.decide.specs.Table.{hasRight, outsideNumber, allInside, serviceRows, taskFor}
 use Rattle.decide.proofs.Decided.{memory-facts}
-use Rattle.terminal.specs.Reports.{dumped, entriesOf}
-use Rattle.terminal.specs.Done.{loaded, memoryDone, done}
+use Rattle.memory.specs.Memory.{entriesOf, loaded}
+use Rattle.terminal.specs.Reports.{dumped}
+use Rattle.terminal.specs.Done.{memoryDone, done}
 
 -- ---- what the narrower's area allows, the wider's allows
 

@@ -15,7 +15,7 @@ use Rattle.terminal.specs.Outcome.{Input, verdictOn, reportsOn, framesDue, octe
 use Rattle.terminal.specs.Act.{answerMost}
 use Rattle.hexline.specs.declared.Written.{Written}
 use Rattle.hexline.specs.Line.{Station, packetInput, isPacket, linesOf, closing, closingOf, packetAnswer, packetAfter, lineAnswer, lineAfter}
-use Rattle.hexline.specs.Unit.{lineTime}
+use Rattle.lineunit.specs.Unit.{lineTime}
 use Rattle.hexline.specs.Whole.{answerRoom}
 use Rattle.characters.specs.Digits.{textOf, octetsIn}
 use Rattle.characters.proofs.Texts.{decoded-front}

@@ -1,4 +1,3 @@
-pub mod Unit
 pub mod Line
 pub mod Whole
 pub mod Said

@@ -12,7 +12,7 @@ use Rattle.terminal.specs.Outcome.{Input, verdictOn, framesDue, outAfter}
 use Rattle.terminal.specs.Run.{Machine, Step, inputFor, after}
 use Rattle.lines.specs.Lines.{newline}
 use Rattle.characters.specs.Digits.{textOf, allDigits, octetsIn}
-use Rattle.hexline.specs.Unit.{lineTime}
+use Rattle.lineunit.specs.Unit.{lineTime}
 
 -- The most characters of a packet line.
 abbrev pub lineMost : ℕ

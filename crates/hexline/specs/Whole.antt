@@ -6,7 +6,7 @@ use Rattle.lines.specs.Turn.{Program}
 use Rattle.lines.specs.Feed.{LineProgram, overPieces}
 use Rattle.hexline.specs.declared.Progress.{Progress}
 use Rattle.hexline.specs.Line.{lineMost, Station, closing, lineAnswer, lineAfter}
-use Rattle.hexline.specs.Unit.{lineState, lineStore, lineOut}
+use Rattle.lineunit.specs.Unit.{lineState, lineStore, lineOut}
 
 -- The most characters of an answer.
 abbrev pub answerRoom : ℕ

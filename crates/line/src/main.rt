@@ -36,7 +36,7 @@ fn write(text: &Text, count: usize) -> bool {
 
 // Answers what is left at the end of the input.
 fn end(p: Progress, input: &Input, store: &mut Store, frames: &mut Frames, text: &mut Text) {
-    let last = hexline::feed::finish(hexline::profile(), p, input, store, frames, text);
+    let last = hexline::feed::finish(lineunit::profile(), p, input, store, frames, text);
     write(text, last.at);
 }
 
@@ -74,7 +74,7 @@ fn turn(
     frames: &mut Frames,
     text: &mut Text,
 ) -> Next {
-    let fed = hexline::feed::feed(hexline::profile(), p, input, store, frames, text);
+    let fed = hexline::feed::feed(lineunit::profile(), p, input, store, frames, text);
     let l = fed.lines;
     if !write(text, l.at) {
         return Next { on: false, p: fed };

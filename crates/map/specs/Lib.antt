@@ -1,3 +1,4 @@
 pub mod Place
 pub mod Sound
 pub mod Made
+pub mod Examples

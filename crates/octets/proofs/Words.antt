@@ -6,7 +6,7 @@ use Prim.Native.Nat.{ℕ, zero, suc, _+_, _/_, _%_, _≤_, _<_}
 use native.Mathlib.Nat.{add-zero}
 use native.Mathlib.Omega.{arith}
 use lib.ListN.{length, take, drop, List·getD-eq-default}
-use lib.Seq.{getD-append-seam, getD-append-add, drop-cons, take-at}
+use lib.Seq.{getD-append-seam, getD-append-add, drop-cons, take-at, take-all}
 use Rattle.octets.specs.Numbers.{octet, word16, word32, octets16}
 
 pub octet-past : (s : List ℕ) (at : ℕ) → length s ≤ at → octet s at ≡ 0
@@ -56,3 +56,7 @@ run-drop s at (suc n) h =
 -- A list that begins with its octets.
 pub run-take : (s : List ℕ) (at n : ℕ) → at + n ≤ length s → take n (drop at s) ≡ run s at n
 run-take s at n h = ap (λ (r : List ℕ). take n r) (run-drop s at n h) ∙ take-at (run s at n) (drop (at + n) s) n (run-length s at n)
+
+-- The octets of a list read one by one are the list.
+pub run-all : (s : List ℕ) (n : ℕ) → length s ≡ n → run s 0 n ≡ s
+run-all s n h = sym (run-take s 0 n (omega arith)) ∙ take-all n s (omega arith)

@@ -11,7 +11,7 @@ use Rattle.checks.specs.Verdict.{isAccepted, numberOf, detailOf}
 use Rattle.tc.specs.declared.Fields.{Fields}
 use Rattle.writer.specs.declared.Written.{Written}
 use Rattle.writer.specs.Writer.{writtenNumber, writtenLength}
-use Rattle.decide.specs.declared.State.{State}
+use Rattle.tm.specs.declared.counts.Counts.{Counts}
 use Rattle.printing.specs.Text.{spaced}
 
 -- 0000, or 01 and the number as one octet.
@@ -27,8 +27,8 @@ unfoldable pub verdictText : Verdict → List ℕ
 verdictText v = codeText (isAccepted v) (numberOf v) ++ spaced (octets16 (detailOf v))
 
 -- The octets written, the count of category 1 and of category 9, and the end of the line.
-unfoldable pub countsText : ℕ → State → List ℕ
-countsText written s = field written ++ (spaced (octets16 (s .counts .reports)) ++ (spaced (octets16 (s .counts .services)) ++ newline ∷ []))
+unfoldable pub countsText : ℕ → Counts → List ℕ
+countsText written c = field written ++ (spaced (octets16 (c .reports)) ++ (spaced (octets16 (c .services)) ++ newline ∷ []))
 
 -- The checksum flag, ack, type, subtype and pad, an octet each.
 unfoldable pub headerText : Fields → List ℕ

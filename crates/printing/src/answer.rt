@@ -1,8 +1,8 @@
 // The text of what the terminal, the reader and the writer answer.
 use crate::text;
 use checks::Verdict;
-use decide::State;
 use tc::Fields;
+use tm::counts::Counts;
 use writer::Written;
 ghost use Rattle.printing.specs.Text.{SaysBy};
 ghost use Rattle.printing.specs.Answer.{codeText, verdictText, countsText, headerText, fieldsText, lengthText, writtenText};
@@ -29,11 +29,10 @@ pub fn put_verdict(text: &mut [u8], at: usize, v: Verdict) -> usize
 }
 
 // How many octets were written, and both counts; the line ends.
-pub fn put_counts(text: &mut [u8], at: usize, written: usize, state: State) -> usize
-    ensures { λ r. ⌜ SaysBy (countsText written state) at text r ⌝ }
+pub fn put_counts(text: &mut [u8], at: usize, written: usize, counts: Counts) -> usize
+    ensures { λ r. ⌜ SaysBy (countsText written counts) at text r ⌝ }
 {
     let count = text::number(text, at, (written % FIELD) as u16);
-    let counts = state.counts;
     let reports = text::number(text, count, counts.reports);
     let services = text::number(text, reports, counts.services);
     text::end(text, services)

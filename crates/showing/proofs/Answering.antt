@@ -68,7 +68,7 @@ due-front i out six h =
 -- The line of the octets written, the verdict and the counts, said one behind another, are what is said of an answer.
 pub answer-said : (b : Bench) (packet : List ℕ) {r : Outcome} {store out written : List ℕ} {s : Session} {at frames verdict last : ℕ} {t₀ t₁ t₂ t₃ : List ℕ}
     → length (b .session .time) ≡ 6 → AnsweredOver (inputAt b packet) (b .store) (b .out) r store out → written ≡ take (r .written) out
-    → Says (lineOf written) at t₀ frames t₁ → Says (verdictText (r .verdict)) frames t₁ verdict t₂ → Says (countsText (r .written) (r .state)) verdict t₂ last t₃
+    → Says (lineOf written) at t₀ frames t₁ → Says (verdictText (r .verdict)) frames t₁ verdict t₂ → Says (countsText (r .written) (r .state .counts)) verdict t₂ last t₃
     → s ≡ withState (b .session) (r .state)
     → Serves (answering b packet) at t₀ (record { session = s; at = last }) store out t₃
 unfolding answerText benchAfter outcomeOf

@@ -45,7 +45,7 @@ inputAt b packet = input (b .session .profile) (b .session .state) (b .session .
 
 -- A line of the octets written; then the verdict, how many octets they are, and both counts.
 unfoldable pub answerText : Input → List ℕ
-answerText i = lineOf (octetsDue i) ++ (verdictText (verdictOn i) ++ countsText (length (octetsDue i)) (outcomeOf i .state))
+answerText i = lineOf (octetsDue i) ++ (verdictText (verdictOn i) ++ countsText (length (octetsDue i)) (outcomeOf i .state .counts))
 
 -- What stays after an answer.
 unfoldable pub benchAfter : Bench → Input → Bench

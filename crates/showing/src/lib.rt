@@ -38,7 +38,7 @@ pub fn answer(
     let v = outcome.verdict;
     let frames = text::line(text, at, lines::front(out, written));
     let verdict = answer::put_verdict(text, frames, v);
-    let last = answer::put_counts(text, verdict, written, state);
+    let last = answer::put_counts(text, verdict, written, state.counts);
     let session = session::with_state(s, state);
     Served { session, at: last }
 }

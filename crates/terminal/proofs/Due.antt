@@ -23,7 +23,7 @@ use Rattle.blocks.specs.Blocks.{firstPlace, memoryId, blockCount, blocksOf}
 use Rattle.blocks.proofs.Blocks.{Bounds, blocks-length}
 use Rattle.blocks.proofs.WellFormed.{head-facts, right-bounds}
 use Rattle.tm.specs.Frame.{Report, framesOf}
-use Rattle.tm.specs.Source.{echoOf, failure, dumpHead, checkHead}
+use Rattle.reports.specs.Source.{echoOf, failure, dumpHead, checkHead}
 use Rattle.tm.proofs.Frames.{octetsIn, frames-size, size-append}
 use Rattle.requests.specs.declared.Action.the-variants.{Load, Dump, Check}
 use Rattle.decide.specs.declared.Task.{Task}
@@ -31,11 +31,12 @@ use Rattle.decide.specs.declared.Task.the-variants.{Idle, Memory, Connection}
 use Rattle.requests.specs.Request.{carriedBy, mostWords}
 use Rattle.decide.specs.Table.{taskOf, FormedFor, Formed}
 use Rattle.decide.proofs.Decided.{heard-facts}
-use Rattle.terminal.specs.Reports.{echo, failed, dumped, entriesOf, asked, asksAcceptance, asksCompletion}
+use Rattle.memory.specs.Memory.{entriesOf}
+use Rattle.terminal.specs.Reports.{echo, failed, dumped, asked, asksAcceptance, asksCompletion}
 use Rattle.terminal.specs.Done.{memoryDone, done}
 use Rattle.terminal.specs.Outcome.{Input, doneBy, reportsFor, verdictOn, reportsOn, framesDue, octetsDue, outAfter}
 use Rattle.terminal.specs.Act.{echoSize, refusalSize, dumpMost, serviceMost, answerMost}
-use Rattle.terminal.proofs.Sizes.{entries-length}
+use Rattle.memory.proofs.Walking.{entries-length}
 use Rattle.terminal.proofs.Answering.{accepted-due, accepted-formed, refused-due, silent-due}
 
 -- (1,1) and (1,7) are at most 20 octets, asked for or not.

@@ -13,7 +13,7 @@ use Rattle.checks.specs.Verdict.{isAccepted, numberOf, detailOf, silent}
 use Rattle.checks.proofs.Numbers.{silent-refuses}
 use Rattle.tm.specs.Counts.{nextCount}
 use Rattle.tm.specs.Frame.{stamped, framesOf, countsAfter}
-use Rattle.tm.specs.Source.{echoOf, failure}
+use Rattle.reports.specs.Source.{echoOf, failure}
 use Rattle.tm.proofs.Counting.{counted-report}
 use Rattle.tm.proofs.Frames.{octetsIn, frames-size}
 use Rattle.terminal.specs.Act.{refusalSize}

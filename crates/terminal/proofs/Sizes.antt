@@ -1,32 +1,26 @@
 -- How many octets the parts of the reports have at most.
 -- Assumes nothing.
-use mathlib.Core.Path.{_≡_, refl, sym, ap, _∙_}
-use mathlib.Core.List.{List, [], _∷_, _++_, append-assoc}
+use mathlib.Core.Path.{_≡_, sym, ap, _∙_}
+use mathlib.Core.List.{List, _++_, append-assoc}
 use Prim.Native.Nat.{ℕ, _+_, _*_}
 use native.Mathlib.Omega.{arith}
 use lib.ListN.{length, length-append}
 use Rattle.map.specs.declared.Area.{Area}
-use Rattle.blocks.specs.declared.Block.{Block}
 use Rattle.blocks.specs.Blocks.{firstPlace, memoryId, blockCount, blocksOf}
 use Rattle.blocks.proofs.Blocks.{blocks-length}
 use Rattle.tm.specs.declared.Stamp.{Stamp}
 use Rattle.tm.specs.declared.counts.Counts.{Counts}
 use Rattle.tm.specs.Counts.{countFor}
 use Rattle.tm.specs.Frame.{headOf, frameOf, stamped}
-use Rattle.tm.specs.Source.{checkHead}
+use Rattle.reports.specs.Source.{checkHead}
 use Rattle.tm.proofs.Frame.{head-length}
 use Rattle.requests.specs.declared.Action.the-variants.{Check}
 use Rattle.requests.specs.Request.{carriedBy}
 use Rattle.terminal.specs.declared.act.Sender.{Sender}
-use Rattle.terminal.specs.Reports.{entryOf, entriesOf, checked}
+use Rattle.memory.specs.Memory.{entriesOf}
+use Rattle.terminal.specs.Reports.{checked}
+use Rattle.memory.proofs.Walking.{entries-length}
 use Rattle.terminal.specs.Act.{checkFirst}
-
-pub entries-length : (a : Area) (store : List ℕ) (blocks : List Block) → length (entriesOf a store blocks) ≡ length blocks * 8
-unfolding entriesOf
-entries-length a store [] = refl
-entries-length a store (b ∷ rest) =
-    let more : length (entriesOf a store rest) ≡ length rest * 8 = entries-length a store rest in
-    length-append (entryOf a store b) (entriesOf a store rest) ∙ omega arith
 
 -- The check report's frame is its first eighteen octets and then its entries.
 pub check-frame : (sender : Sender) (c : Counts) (a : Area) (d store : List ℕ)

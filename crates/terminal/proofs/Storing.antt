@@ -34,7 +34,8 @@ use Rattle.decide.specs.declared.Task.the-variants.{Idle, Memory, Connection}
 use Rattle.requests.specs.Request.{carriedBy, mostWords, outsideOf}
 use Rattle.decide.specs.Table.{serviceRows, askedBy, taskFor, taskOf, Formed}
 use Rattle.decide.proofs.Decided.{accepted-facts, memory-facts}
-use Rattle.terminal.specs.Done.{loaded, memoryDone, done}
+use Rattle.memory.specs.Memory.{loaded}
+use Rattle.terminal.specs.Done.{memoryDone, done}
 use Rattle.terminal.specs.Outcome.{Input, verdictOn, storeOn}
 use Rattle.terminal.proofs.Answering.{accepted-store, refused-store}
 

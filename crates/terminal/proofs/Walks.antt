@@ -1,4 +1,4 @@
--- Walks over the blocks of a request, one block at a time: the words written, the entries laid, the reports laid.
+-- A walk over the blocks of a dump, one block at a time: the reports laid.
 -- Assumes nothing.
 use mathlib.Core.Path.{_≡_, sym, ap, _∙_}
 use mathlib.Core.List.{List, [], _∷_, _++_, map, append-nil, append-assoc}
@@ -7,52 +7,15 @@ use native.Mathlib.Omega.{arith}
 use lib.ListN.{length}
 use Rattle.laws.specs.Each.{Each}
 use Rattle.octets.specs.Copy.{laid}
-use Rattle.octets.proofs.Laid.{laid-append, laid-none}
-use Rattle.map.specs.declared.Area.{Area}
-use Rattle.map.specs.Place.{octetAt}
 use Rattle.blocks.specs.declared.Block.{Block}
-use Rattle.blocks.specs.Blocks.{firstPlace, blockAt, blocksFrom, wordsOf}
+use Rattle.blocks.specs.Blocks.{firstPlace, blockAt, blocksFrom}
 use Rattle.blocks.proofs.Blocks.{Bounds}
 use Rattle.blocks.proofs.Walk.{left, left-all, left-step, left-none}
 use Rattle.tm.specs.Frame.{Report}
 use Rattle.terminal.specs.declared.act.Sender.{Sender}
 use Rattle.terminal.specs.declared.act.Progress.{Progress}
-use Rattle.terminal.specs.Reports.{entryOf, entriesOf}
-use Rattle.terminal.specs.Done.{loaded}
 use Rattle.terminal.specs.Act.{dumpMost, serviceMost, Did}
 use Rattle.terminal.proofs.Steps.{did-none, did-then, did-weaken}
-
-module _ (carried : ℕ) (d : List ℕ) (n : ℕ) where
-  abbrev here : ℕ → Block
-  here place = blockAt carried d place
-
-  -- A block written, and those that are left.
-  pub loaded-step : (a : Area) (i place : ℕ) (store : List ℕ) → i < n
-      → loaded a d (left carried d n i place) store
-      ≡ loaded a d (left carried d n (i + 1) (here place .next)) (laid store (octetAt a (here place .start)) (wordsOf d (here place)))
-  unfolding loaded
-  loaded-step a i place store h = ap (λ (bs : List Block). loaded a d bs store) (left-step carried d n i place h)
-
-  -- Nothing is left to write.
-  pub loaded-none : (a : Area) (i place : ℕ) (store : List ℕ) → n ≤ i → loaded a d (left carried d n i place) store ≡ store
-  unfolding loaded
-  loaded-none a i place store h = ap (λ (bs : List Block). loaded a d bs store) (left-none carried d n i place h)
-
-  -- An entry laid, and those that are left.
-  pub entries-step : (a : Area) (store : List ℕ) (i place : ℕ) (out : List ℕ) (to : ℕ) → i < n
-      → laid out to (entriesOf a store (left carried d n i place))
-      ≡ laid (laid out to (entryOf a store (here place))) (to + 8) (entriesOf a store (left carried d n (i + 1) (here place .next)))
-  unfolding entriesOf
-  entries-step a store i place out to h =
-      ap (λ (bs : List Block). laid out to (entriesOf a store bs)) (left-step carried d n i place h)
-      ∙ sym (laid-append out to (entryOf a store (here place)) (entriesOf a store (left carried d n (i + 1) (here place .next))))
-
-  -- Nothing is left to lay.
-  pub entries-none : (a : Area) (store : List ℕ) (i place : ℕ) (out : List ℕ) (to : ℕ) → n ≤ i
-      → laid out to (entriesOf a store (left carried d n i place)) ≡ out
-  unfolding entriesOf
-  entries-none a store i place out to h =
-      ap (λ (bs : List Block). laid out to (entriesOf a store bs)) (left-none carried d n i place h) ∙ laid-none out to
 
 -- The reports laid so far are those of the blocks that were passed; each block that is left is at most so many words long.
 pub record Dumping (f : Block → Report) (most : ℕ) (sender : Sender) (p q : Progress) (out out′ : List ℕ) (carried : ℕ) (d : List ℕ) (n i place : ℕ) : Type 0 where

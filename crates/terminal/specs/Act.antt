@@ -5,20 +5,15 @@ use Prim.Native.Nat.{ℕ, _+_, _*_, _≤_}
 use lib.ListN.{length}
 use Rattle.laws.specs.Fold.{joined}
 use Rattle.octets.specs.Copy.{laid, placed}
-use Rattle.blocks.specs.Blocks.{memoryId, blockCount, blocksOf, blockAt, wordsOf}
-use Rattle.map.specs.declared.Area.{Area}
-use Rattle.map.specs.Place.{octetAt}
+use Rattle.blocks.specs.Blocks.{memoryId, blockCount}
 use Rattle.tm.specs.declared.Stamp.{Stamp}
 use Rattle.tm.specs.declared.counts.Counts.{Counts}
 use Rattle.tm.specs.Counts.{countFor}
 use Rattle.tm.specs.Frame.{Report, headOf, framesOf, countsAfter}
-use Rattle.tm.specs.Source.{checkHead}
-use Rattle.requests.specs.declared.Action.the-variants.{Load, Check}
+use Rattle.reports.specs.Source.{checkHead}
 use Rattle.decide.specs.declared.Work.{Work}
-use Rattle.requests.specs.Request.{carriedBy}
 use Rattle.terminal.specs.declared.act.Sender.{Sender}
 use Rattle.terminal.specs.declared.act.Progress.{Progress}
-use Rattle.terminal.specs.Reports.{entryOf, entriesOf}
 use Rattle.terminal.specs.Done.{Done, done}
 use Rattle.terminal.specs.Outcome.{reportsFor}
 
@@ -63,22 +58,6 @@ pub record Serves (sender : Sender) (before after : Progress) (out out′ : List
 pub record CarriesOut (sender : Sender) (work : Work) (before after : Progress) (packet out out′ store store′ : List ℕ) : Type 0 where
   pub did : Did answerMost sender before after out out′ (reportsFor (work .ack) packet (done (work .task) (placed (work .«data») packet) store .reports))
   pub store-is : store′ ≡ done (work .task) (placed (work .«data») packet) store .store
-
--- A block of a load is written, and the next one begins there.
-pub record LoadsBlock (a : Area) (d : List ℕ) (place : ℕ) (store : List ℕ) (next : ℕ) (store′ : List ℕ) : Type 0 where
-  pub next-is : next ≡ blockAt (carriedBy Load) d place .next
-  pub store-is : store′
-      ≡ laid store (octetAt a (blockAt (carriedBy Load) d place .start)) (wordsOf d (blockAt (carriedBy Load) d place))
-
--- The entry of a block is laid, and the next one begins there.
-pub record LaysEntry (a : Area) (d : List ℕ) (place : ℕ) (store : List ℕ) (at : ℕ) (out : List ℕ) (next : ℕ) (out′ : List ℕ) : Type 0 where
-  pub next-is : next ≡ blockAt (carriedBy Check) d place .next
-  pub out-is : out′ ≡ laid out at (entryOf a store (blockAt (carriedBy Check) d place))
-
--- The entries of all blocks are laid, and so many octets they are.
-pub record LaysEntries (a : Area) (d store : List ℕ) (at : ℕ) (out : List ℕ) (r : ℕ) (out′ : List ℕ) : Type 0 where
-  pub octets-is : r ≡ blockCount d * 8
-  pub out-is : out′ ≡ laid out at (entriesOf a store (blocksOf (carriedBy Check) d))
 
 -- What stands before the entries of (6,10).
 unfoldable pub checkFirst : Sender → Counts → List ℕ → List ℕ

@@ -1,17 +1,15 @@
 -- What each service does for an accepted packet.
 use mathlib.Core.List.{List, [], _∷_, map}
 use Prim.Native.Nat.{ℕ}
-use Rattle.octets.specs.Copy.{laid}
 use Rattle.map.specs.declared.Area.{Area}
-use Rattle.map.specs.Place.{octetAt}
-use Rattle.blocks.specs.declared.Block.{Block}
-use Rattle.blocks.specs.Blocks.{memoryId, blockCount, blocksOf, wordsOf}
+use Rattle.blocks.specs.Blocks.{memoryId, blockCount, blocksOf}
 use Rattle.tm.specs.Frame.{Report}
 use Rattle.requests.specs.declared.Action.{Action}
 use Rattle.requests.specs.declared.Action.the-variants.{Load, Dump, Check}
 use Rattle.decide.specs.declared.Task.{Task}
 use Rattle.decide.specs.declared.Task.the-variants.{Idle, Memory, Connection}
 use Rattle.requests.specs.Request.{carriedBy}
+use Rattle.memory.specs.Memory.{loaded}
 use Rattle.terminal.specs.Reports.{dumped, checked, connected}
 
 -- What was done: the service's reports, and the store afterwards.
@@ -22,11 +20,6 @@ pub record Done : Type 0 where
 -- Reports alone, and the store as it was.
 abbrev pub reporting : List Report → List ℕ → Done
 reporting reports store = record { reports = reports; store = store }
-
--- The store with the blocks of a load written in order; where two overlap the later one stays.
-unfoldable pub loaded : Area → List ℕ → List Block → List ℕ → List ℕ
-loaded a d [] store = store
-loaded a d (b ∷ rest) store = loaded a d rest (laid store (octetAt a (b .start)) (wordsOf d b))
 
 -- Service 6 on an area: a load writes and reports nothing, a dump reports each block, a check all of them in one.
 abbrev pub memoryDone : Area → Action → List ℕ → List ℕ → Done

@@ -19,7 +19,7 @@ ghost use Rattle.requests.specs.declared.Action.the-variants.{Load, Dump, Check
 ghost use Rattle.decide.specs.Table.{Formed, FormedFor};
 ghost use Rattle.terminal.specs.Reports.{echo, failed, connected, dumped, asked};
 ghost use Rattle.terminal.specs.Done.{memoryDone, done};
-ghost use Rattle.terminal.specs.Act.{echoSize, refusalSize, dumpMost, serviceMost, Stamped, Did, Serves, CarriesOut, LoadsBlock, LaysEntry, LaysEntries, checkFirst};
+ghost use Rattle.terminal.specs.Act.{echoSize, refusalSize, dumpMost, serviceMost, Stamped, Did, Serves, CarriesOut, checkFirst};
 
 // Whose reports they are, and their time.
 pub struct Sender {
@@ -74,7 +74,7 @@ fn report_echo(
         return p;
     }
     let s = stamp(sender, p.counts, 1, subtype);
-    let octets = tm::put_echo(out, p.at, s, tm::echo_of(packet));
+    let octets = reports::put_echo(out, p.at, s, reports::echo_of(packet));
     advance(p, octets, 1)
 }
 
@@ -90,11 +90,11 @@ pub(crate) fn report_refusal(
     ensures { λ r. ⌜ Did refusalSize sender p r (now (out .entry)) (now (out .exit)) (failed v (now (packet .entry)) ∷ []) ⌝ }
 {
     let s = stamp(sender, p.counts, 1, 2);
-    let size = tm::put_failure(
+    let size = reports::put_failure(
         out,
         p.at,
         s,
-        tm::echo_of(packet),
+        reports::echo_of(packet),
         checks::number(v),
         checks::detail(v),
     );
@@ -127,32 +127,8 @@ fn report_block(
 {
     let s = stamp(sender, p.counts, 6, 6);
     let part = map::place::stored(area, store, block.start, block.words as u32);
-    let octets = tm::put_dump(out, p.at, s, memory, block.start, block.words, part);
+    let octets = reports::put_dump(out, p.at, s, memory, block.start, block.words, part);
     advance(p, octets, 6)
-}
-
-// Writes the blocks of a load into the store, in order.
-fn load(area: Area, application: &[u8], store: &mut [u8])
-    ensures { λ _. ⌜ now (store .exit) ≡ memoryDone area Load (now (application .entry)) (now (store .entry)) .store ⌝ }
-{
-    let count = blocks::reading::block_count(application);
-    let mut place: usize = blocks::FIRST;
-    let mut i: u8 = 0;
-    while i < count {
-        place = load_block(area, application, place, store);
-        i += 1;
-    }
-}
-
-// Writes the words of the block at a place, and answers where the next one begins.
-fn load_block(area: Area, application: &[u8], place: usize, store: &mut [u8]) -> usize
-    ensures { λ r. ⌜ LoadsBlock area (now (application .entry)) place (now (store .entry)) r (now (store .exit)) ⌝ }
-{
-    let carried = requests::carried_by(Action::Load);
-    let block = blocks::reading::block_at(carried, application, place);
-    let at = map::place::octet_at(area, block.start);
-    octets::copy::put(store, at, blocks::reading::words(application, block));
-    block.next
 }
 
 // (6,6) for each block, in order.
@@ -196,7 +172,7 @@ fn check(
 {
     let at = p.at as usize;
     lay_check_head(sender, p.counts, application, at, out);
-    let octets = entries(area, application, store, at + 18, out);
+    let octets = memory::entries(area, application, store, p.at + 18, out);
     advance(p, octets + 18, 6)
 }
 
@@ -212,42 +188,6 @@ fn lay_check_head(sender: Sender, counts: Counts, application: &[u8], at: usize,
     let pair = [memory, count];
     octets::copy::put(out, at, &head);
     octets::copy::put(out, at + 16, &pair);
-}
-
-// Lays the entries of (6,10) from a place on, and answers how many octets they are.
-fn entries(area: Area, application: &[u8], store: &[u8], at: usize, out: &mut [u8]) -> usize
-    requires { ⌜ at ≤ serviceMost ⌝ }
-    ensures { λ r. ⌜ LaysEntries area (now (application .entry)) (now (store .entry)) at (now (out .entry)) r (now (out .exit)) ⌝ }
-{
-    let count = blocks::reading::block_count(application);
-    let mut place: usize = blocks::FIRST;
-    let mut i: u8 = 0;
-    let mut octets: usize = 0;
-    while i < count {
-        place = entry(area, application, place, store, at + octets, out);
-        octets += 8;
-        i += 1;
-    }
-    octets
-}
-
-// Lays the entry of the block at a place of the application data, and answers where the next block begins.
-fn entry(
-    area: Area,
-    application: &[u8],
-    place: usize,
-    store: &[u8],
-    at: usize,
-    out: &mut [u8],
-) -> usize
-    ensures { λ r. ⌜ LaysEntry area (now (application .entry)) place (now (store .entry)) at (now (out .entry)) r (now (out .exit)) ⌝ }
-{
-    let carried = requests::carried_by(Action::Check);
-    let block = blocks::reading::block_at(carried, application, place);
-    let covered = map::place::stored(area, store, block.start, block.words as u32);
-    let octets = tm::check_entry(block.start, block.words, crc::crc(covered));
-    octets::copy::put(out, at, &octets);
-    block.next
 }
 
 // Does what service 6 is asked for on an area.
@@ -266,7 +206,7 @@ fn serve_memory(
     let action = job.action;
     match action {
         Action::Load => {
-            load(area, application, store);
+            memory::load(area, application, store);
             p
         }
         Action::Dump => dump(area, sender, p, application, store, out),

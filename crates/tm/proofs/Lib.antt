@@ -1,4 +1,3 @@
 pub mod Counting
 pub mod Frame
 pub mod Frames
-pub mod Source

@@ -1,4 +1,2 @@
 pub mod Counts
 pub mod Frame
-pub mod Source
-pub mod Examples

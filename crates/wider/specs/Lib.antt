@@ -1,2 +1,1 @@
 pub mod Wider
-pub mod Examples

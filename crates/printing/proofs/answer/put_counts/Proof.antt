@@ -30,7 +30,7 @@ returns c =
     let e = c .before .before in
     let s = e .before .before .before .before in
     let r = s .before .before .before .before in
-    says-append (r .before .before .before .before .before .number .ensures) (says-append (r .number2 .ensures) (says-append (s .number3 .ensures) (e .end .ensures)))
+    says-append (r .before .before .before .before .number .ensures) (says-append (r .number2 .ensures) (says-append (s .number3 .ensures) (e .end .ensures)))
 
 pub put-counts-spec : {M : Type 1} → statement M
 put-counts-spec =

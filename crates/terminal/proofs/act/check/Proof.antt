@@ -14,10 +14,11 @@ use Rattle.blocks.proofs.Blocks.{blocks-length}
 use Rattle.blocks.proofs.WellFormed.{head-facts}
 use Rattle.requests.specs.declared.Action.the-variants.{Check}
 use Rattle.requests.specs.Request.{carriedBy}
-use Rattle.terminal.specs.Reports.{entriesOf}
+use Rattle.memory.specs.Memory.{entriesOf}
 use Rattle.terminal.specs.Act.{echoSize, checkFirst}
 use Rattle.terminal.proofs.Steps.{did-one}
-use Rattle.terminal.proofs.Sizes.{entries-length, check-frame, check-first-length}
+use Rattle.memory.proofs.Walking.{entries-length}
+use Rattle.terminal.proofs.Sizes.{check-frame, check-first-length}
 use Rattle.terminal.proofs.act.check.Statement.{statement}
 use Rattle.terminal.proofs.act.check.Tie as tie
 
@@ -42,7 +43,7 @@ time-length s = search needs
 -- there are at most eight entries
 octets : (c : tie.After-entries) → c .entries .result ≤ 64
 octets c =
-    let s = c .before .before .before .before .before .before .before .before .before .before in
+    let s = c .before .before .before .before .before .before .before .before .before .before .before in
     omega (arith, c .entries .ensures .octets-is, head-facts (now (s .args .application)) (s .pre .1 .0) .few)
 
 add-advance : tie.Need-add-advance
@@ -50,7 +51,7 @@ add-advance c = omega (arith, octets (c .before .before))
 
 advance-requires : tie.Need-advance-requires
 advance-requires c κs =
-    omega (arith, octets (c .before .before), start (c .before .before .before .before .before .before .before .before .before .before .before .before))
+    omega (arith, octets (c .before .before), start (c .before .before .before .before .before .before .before .before .before .before .before .before .before))
 
 same-length : tie.Need-same-length
 same-length c = search needs
@@ -58,7 +59,7 @@ same-length c = search needs
 returns : tie.Need-returns
 returns c =
     let e = c .before .before .before in
-    let lay = e .before .before .before .before in
+    let lay = e .before .before .before .before .before in
     let s = lay .before .before .before .before .before .before in
     let a = s .args in
     let d : List ℕ = now (a .application) in

@@ -12,7 +12,7 @@ use Rattle.blocks.specs.Blocks.{memoryId, blockCount}
 use Rattle.tm.specs.declared.Stamp.{Stamp}
 use Rattle.tm.specs.Counts.{countFor}
 use Rattle.tm.specs.Frame.{frameHead, headOf}
-use Rattle.tm.specs.Source.{checkHead}
+use Rattle.reports.specs.Source.{checkHead}
 use Rattle.tm.proofs.Frame.{head-length}
 use Rattle.terminal.specs.Act.{checkFirst}
 use Rattle.terminal.proofs.act.lay_check_head.Statement.{statement}

@@ -8,7 +8,7 @@ use lib.ListN.{length, length-append}
 use denote.Ref.{now}
 use borrow.Author.Needs.{needs}
 use Rattle.map.proofs.Octets.{stored-most, dump-most}
-use Rattle.tm.specs.Source.{dumpHead}
+use Rattle.reports.specs.Source.{dumpHead}
 use Rattle.terminal.specs.Act.{dumpMost}
 use Rattle.terminal.proofs.Steps.{frame-octets, did-frame}
 use Rattle.terminal.proofs.act.report_block.Statement.{statement}

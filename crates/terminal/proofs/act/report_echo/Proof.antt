@@ -7,7 +7,7 @@ use lib.ListN.{length}
 use denote.Ref.{now}
 use borrow.Author.Tests.{not-true, not-false}
 use borrow.Author.Needs.{needs}
-use Rattle.tm.proofs.Source.{echoed-eq}
+use Rattle.reports.proofs.Echoes.{echoed-eq}
 use Rattle.terminal.specs.Reports.{echo}
 use Rattle.terminal.specs.Act.{echoSize}
 use Rattle.terminal.proofs.Steps.{not-asked, is-asked, frame-octets, did-frame}

@@ -7,8 +7,8 @@ use native.Mathlib.Omega.{arith}
 use lib.ListN.{length}
 use denote.Ref.{now}
 use borrow.Author.Needs.{needs}
-use Rattle.tm.specs.Source.{echoOf, failure}
-use Rattle.tm.proofs.Source.{echoed-eq}
+use Rattle.reports.specs.Source.{echoOf, failure}
+use Rattle.reports.proofs.Echoes.{echoed-eq}
 use Rattle.terminal.specs.Act.{refusalSize}
 use Rattle.terminal.proofs.Steps.{frame-octets, did-frame}
 use Rattle.terminal.proofs.act.report_refusal.Statement.{statement}
