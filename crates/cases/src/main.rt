@@ -24,18 +24,12 @@ const TEXT_ROOM: usize = 327680;
 
 type Text = [u8; TEXT_ROOM];
 
-// Whether to go on, the session, how much input waits, and whether that begins a line.
+// Whether to go on, whether the input has ended, the session, how much input waits, and how far the walk over it has come.
 struct Next {
     on: bool,
+    ended: bool,
     session: Session,
     have: usize,
-    begins: bool,
-}
-
-// Whether to go on, the session, and how far the walk over the input has come.
-struct Walked {
-    on: bool,
-    session: Session,
     walk: Walk,
 }
 
@@ -59,9 +53,10 @@ fn run(input: &mut Input, octets: &mut Octets, store: &mut [u8], out: &mut [u8],
     let mut turns = u64::MAX;
     let mut t = Next {
         on: true,
+        ended: false,
         session: session::start(lineunit::profile()),
         have: 0,
-        begins: true,
+        walk: from_front(true),
     };
     while turns > 0 && t.on {
         t = turn(t, input, octets, store, out, text);
@@ -69,7 +64,7 @@ fn run(input: &mut Input, octets: &mut Octets, store: &mut [u8], out: &mut [u8],
     }
 }
 
-// Reads once, and serves what came.
+// Serves the next piece of the input that waits; where none is left, writes out what was said and reads more.
 fn turn(
     t: Next,
     input: &mut Input,
@@ -78,83 +73,75 @@ fn turn(
     out: &mut [u8],
     text: &mut Text,
 ) -> Next {
-    match console::read(b"cases", input, t.have) {
-        Got::More(have) => feed(t, have, input, octets, store, out, text),
-        Got::End => end(t, input, octets, store, out, text),
-        Got::Failed => stopped(t),
+    let w = t.walk;
+    let waiting = lines::front(input, t.have);
+    let Cut::Piece(count, end) = cut(waiting, w.from, t.ended) else {
+        return more(t, input, text);
+    };
+    let piece = lines::piece(waiting, w.from, count);
+    let served = serve(
+        t.session,
+        w.begins,
+        piece,
+        end,
+        octets,
+        store,
+        out,
+        text,
+        w.at,
+    );
+    let written = spared(text, served.at);
+    let passed = lines::passed(waiting, w, count, end, written.at);
+    behind(t, served, written.on, passed)
+}
+
+// The next piece of what waits; at the end of the input all that is left is one.
+fn cut(waiting: &[u8], from: usize, ended: bool) -> Cut {
+    if ended {
+        return lines::last(lines::piece(waiting, from, waiting.len()));
     }
+    lines::next(waiting, from, LINE_MOST)
 }
 
-// No turn follows.
-fn stopped(t: Next) -> Next {
-    let mut last = t;
-    last.on = false;
-    last
-}
-
-// Serves each line that ends in the input, writes out what they are answered, and keeps what is there of the next.
-fn feed(
-    t: Next,
-    have: usize,
-    input: &mut Input,
-    octets: &mut Octets,
-    store: &mut [u8],
-    out: &mut [u8],
-    text: &mut Text,
-) -> Next {
-    let walked = walk(t, lines::front(input, have), octets, store, out, text);
-    let w = walked.walk;
-    let on = walked.on && write_out(text, w.at);
-    let left = lines::carry(input, have, w);
-    let session = walked.session;
+// How far the program is behind a piece that is served.
+fn behind(t: Next, served: Served, on: bool, walk: Walk) -> Next {
+    let session = served.session;
     Next {
         on,
+        ended: t.ended,
         session,
-        have: left.have,
-        begins: left.begins,
+        have: t.have,
+        walk,
     }
 }
 
-// Serves the whole lines of an input, as long as its text can be written. Each piece of a line passes a character, so that there are no more turns than characters.
-fn walk(
-    t: Next,
-    input: &[u8],
-    octets: &mut Octets,
-    store: &mut [u8],
-    out: &mut [u8],
-    text: &mut Text,
-) -> Walked {
-    let first = t.session;
-    let mut walked = Walked {
-        on: true,
-        session: first,
-        walk: Walk {
-            from: 0,
-            begins: t.begins,
-            open: false,
-            at: 0,
-        },
-    };
-    let mut turns = input.len();
-    while turns > 0 && walked.on {
-        let w = walked.walk;
-        let before = walked.session;
-        let Cut::Piece(count, end) = lines::next(input, w.from, LINE_MOST) else {
-            return walked;
-        };
-        let piece = lines::piece(input, w.from, count);
-        let served = serve(before, w.begins, piece, end, octets, store, out, text, w.at);
-        let session = served.session;
-        let written = spared(text, served.at);
-        let passed = lines::passed(input, w, count, end, written.at);
-        walked = Walked {
-            on: written.on,
-            session,
-            walk: passed,
-        };
-        turns -= 1;
+// Writes out what was said; then, unless the input has ended, keeps what is there of the next line and reads behind it.
+fn more(t: Next, input: &mut Input, text: &Text) -> Next {
+    let w = t.walk;
+    let mut next = t;
+    if !write_out(text, w.at) || t.ended {
+        next.on = false;
+        return next;
     }
-    walked
+    let left = lines::carry(input, t.have, w);
+    next.have = left.have;
+    next.walk = from_front(left.begins);
+    match console::read(b"cases", input, left.have) {
+        Got::More(have) => next.have = have,
+        Got::End => next.ended = true,
+        Got::Failed => next.on = false,
+    }
+    next
+}
+
+// A walk from the front of the input, with no text said.
+fn from_front(begins: bool) -> Walk {
+    Walk {
+        from: 0,
+        begins,
+        open: false,
+        at: 0,
+    }
 }
 
 // Serves a piece of a line: a line that is one piece, or the end of one that is too long.
@@ -199,22 +186,4 @@ fn write_out(text: &Text, at: usize) -> bool {
         return false;
     }
     on
-}
-
-// Serves what came of a last line without its newline, and writes out its answer; no turn follows.
-fn end(
-    t: Next,
-    input: &Input,
-    octets: &mut Octets,
-    store: &mut [u8],
-    out: &mut [u8],
-    text: &mut Text,
-) -> Next {
-    let rest = lines::front(input, t.have);
-    let Cut::Piece(_, end) = lines::last(rest) else {
-        return stopped(t);
-    };
-    let served = serve(t.session, t.begins, rest, end, octets, store, out, text, 0);
-    write_out(text, served.at);
-    stopped(t)
 }

@@ -4,11 +4,10 @@ use mathlib.Core.Path.{_≡_, refl, sym, ap, _∙_}
 use mathlib.Core.Bool.{Bool, true, false, cond, false≢true}
 use mathlib.Core.Logic.{_⊎_, inl, inr, ⊎-elim}
 use mathlib.Core.List.{List, [], _∷_, _++_}
-use Prim.Native.Nat.{ℕ, suc, _≤_, zero-le, suc-le-suc}
 use native.Mathlib.Omega.{arith}
 use Rattle.laws.specs.Each.{Each}
 use Rattle.laws.proofs.Tests.{by-test}
-use Rattle.checks.specs.Table.{Row, answer, place, First, AllHold}
+use Rattle.checks.specs.Table.{Row, answer, First, AllHold}
 
 module _ {A R : Type 0} (fine : A) (refuses : R → A) where
   -- A row that holds is passed.
@@ -116,15 +115,6 @@ module _ {R : Type 0} {parts : R → Bool} where
   pub beside-append : {ns ws ms vs : List (Row R)} → Beside parts ns ws → Beside parts ms vs → Beside parts (ns ++ ms) (ws ++ vs)
   beside-append none rest = rest
   beside-append (more g first) rest = more g (beside-append first rest)
-
--- The wider table never refuses at an earlier row.
-pub beside-later : {R : Type 0} {parts : R → Bool} {ns ws : List (Row R)} → Beside parts ns ws → place ns ≤ place ws
-unfolding place
-beside-later none = zero-le
-beside-later (more {n = n} {w = w} {ns = ns} {ws = ws} g rest) =
-    by-test (n .holds)
-    (λ t. rw (t, g .grows t) (suc-le-suc (beside-later rest)))
-    (λ e. rw e zero-le)
 
 -- Unless the narrower refuses at a row that may part, both tables give the same answer.
 pub beside-same : {A R : Type 0} (fine : A) (refuses : R → A) (test : A → Bool) {parts : R → Bool} {ns ws : List (Row R)} → Beside parts ns ws

@@ -3,7 +3,6 @@ use mathlib.Core.Path.{_≡_}
 use mathlib.Core.Bool.{Bool, true, false, cond}
 use mathlib.Core.Logic.{_⊎_}
 use mathlib.Core.List.{List, [], _∷_}
-use Prim.Native.Nat.{ℕ, suc}
 
 -- A check: its refusal where it fails, and whether it holds.
 pub record Row (R : Type 0) : Type 0 where
@@ -14,11 +13,6 @@ pub record Row (R : Type 0) : Type 0 where
 unfoldable pub answer : {A R : Type 0} → A → (R → A) → List (Row R) → A
 answer fine refuses [] = fine
 answer fine refuses (r ∷ rest) = cond (r .holds) (answer fine refuses rest) (refuses (r .refusal))
-
--- The place, from 0, of the first row that does not hold; how many rows there are where all do.
-unfoldable pub place : {R : Type 0} → List (Row R) → ℕ
-place [] = 0
-place (r ∷ rest) = cond (r .holds) (suc (place rest)) 0
 
 -- A row is the first of a table that does not hold.
 unfoldable pub First : {R : Type 0} → List (Row R) → Row R → Type 0

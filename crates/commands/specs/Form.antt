@@ -5,7 +5,7 @@ use Prim.Native.Nat.{ℕ, zero, suc, _+_, _*_, _-_, _/_, _%_}
 use lib.ListN.{length, drop}
 use lib.Dec.{leb, eqb}
 use Rattle.octets.specs.Numbers.{octet, word16}
-use Rattle.tm.specs.Counts.{countsOctets}
+use Rattle.counts.specs.Counts.{countsOctets}
 use Rattle.characters.specs.Digits.{allDigits, octetsIn}
 use Rattle.commands.specs.Letters.{letterP, letterS, letterK, letterT, letterB, letterX, letterO, letterM, letterR, letterW, letterC, letterV}
 

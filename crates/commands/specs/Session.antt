@@ -8,7 +8,7 @@ use Rattle.map.specs.declared.Rights.{Rights}
 use Rattle.map.specs.declared.Flags.{Flags}
 use Rattle.map.specs.declared.Area.{Area}
 use Rattle.map.specs.declared.Profile.{Profile}
-use Rattle.tm.specs.Counts.{noCounts, countsIn}
+use Rattle.counts.specs.Counts.{noCounts, countsIn}
 use Rattle.decide.specs.declared.State.{State}
 use Rattle.commands.specs.declared.session.Session.{Session}
 use Rattle.commands.specs.Form.{headOctets, areaOctets}

@@ -91,7 +91,7 @@ fn takes(letter: u8, given: &[u8]) -> bool
         b'P' => is_profile(given),
         b'V' => is_profile(given),
         b'S' => n <= STORE_ROOM,
-        b'K' => n == tm::counts::OCTETS,
+        b'K' => n == counts::OCTETS,
         b'T' => n == TIME_OCTETS,
         b'B' => is_buffer(given),
         b'X' => n <= PACKET_MOST,

@@ -54,7 +54,7 @@ pub fn start(profile: Profile) -> Session
     Session {
         profile,
         state: State {
-            counts: tm::counts::none(),
+            counts: counts::none(),
         },
         time: [0; 6],
         stored: STORED,
@@ -149,7 +149,7 @@ pub fn set_store(s: Session, given: &[u8], store: &mut [u8]) -> Session
 pub fn set_counts(s: Session, given: &[u8]) -> Session
     ensures { λ r. ⌜ r ≡ withState s (stateIn (now (given .entry))) ⌝ }
 {
-    let counts = tm::counts::counts_in(given);
+    let counts = counts::counts_in(given);
     with_state(s, State { counts })
 }
 

@@ -24,7 +24,7 @@ use Rattle.map.specs.declared.Found.{Found}
 use Rattle.map.specs.declared.Found.the-variants.{At, Nothing}
 use Rattle.map.specs.Sound.{sound, storeAllowed}
 use Rattle.blocks.specs.Blocks.{blocksOf}
-use Rattle.tm.specs.Counts.{inRange}
+use Rattle.counts.specs.Counts.{inRange}
 use Rattle.decide.specs.declared.State.{State}
 use Rattle.requests.specs.declared.Action.{Action}
 use Rattle.requests.specs.declared.Request.the-variants.{Memory, Connection}

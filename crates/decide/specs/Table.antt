@@ -22,7 +22,7 @@ use Rattle.map.specs.declared.Found.the-variants.{At, Nothing}
 use Rattle.map.specs.Sound.{sound, storeAllowed}
 use Rattle.blocks.specs.Blocks.{memoryId, blocksOf}
 use Rattle.blocks.specs.Form.{headRight, formOf, isRight, formDetail}
-use Rattle.tm.specs.Counts.{inRange}
+use Rattle.counts.specs.Counts.{inRange}
 use Rattle.decide.specs.declared.State.{State}
 use Rattle.requests.specs.declared.Action.{Action}
 use Rattle.requests.specs.declared.Request.the-variants.{Memory as Asks, Connection}

@@ -2,6 +2,7 @@
 use blocks::Form;
 use checks::Check;
 use checks::Verdict;
+use counts::Counts;
 use map::Area;
 use map::Found;
 use map::Profile;
@@ -10,7 +11,6 @@ use requests::Action;
 use requests::Asked;
 use requests::Request;
 use tc::Fields;
-use tm::counts::Counts;
 ghost use mathlib.Core.Path.{_≡_};
 ghost use Prim.Native.Nat.{_+_, _*_};
 ghost use Rattle.octets.specs.Copy.{placed};
@@ -111,7 +111,7 @@ fn caller_right(profile: Profile, state: State, store: usize) -> bool
     if !map::sound::store_allowed(store) {
         return false;
     }
-    tm::counts::in_range(state.counts)
+    counts::in_range(state.counts)
 }
 
 // Checks 0, 3 and 4, and then those of the service asked.

@@ -11,8 +11,9 @@ use Rattle.wider.specs.Wider.{wider}
 use Rattle.wider.proofs.Widening.{wider-facts}
 use Rattle.decide.specs.Table.{askedBy}
 use Rattle.decide.proofs.Decided.{accepted-facts}
-use Rattle.terminal.specs.Outcome.{doneBy, reportsDue, storeAfter, verdictOn, reportsOn, framesDue, octetsDue, outcomeOf, outAfter, storeOn}
-use Rattle.terminal.specs.Run.{Machine, Step, answerTo, inputFor}
+use Rattle.terminal.specs.Outcome.{doneBy, reportsDue, storeAfter, verdictOn, reportsOn, framesDue, outcomeOf, outAfter, storeOn}
+use Rattle.terminal.specs.Run.{Machine, Step, inputFor}
+use Rattle.demands.specs.Terminal.{reference}
 use Rattle.demands.proofs.Widened.{done-same}
 
 module _ (wide narrow : Profile) (m : Machine) (s : Step) (w : wider wide narrow (length (m .store)) ≡ true)
@@ -31,15 +32,11 @@ module _ (wide narrow : Profile) (m : Machine) (s : Step) (w : wider wide narrow
   unfolding framesDue
   same-frames = rw (same-reports, wider-facts wide narrow (length (m .store)) w .pid)
 
-  -- The octets of the frames due.
-  pub same-octets : octetsDue (inputFor wide m s) ≡ octetsDue (inputFor narrow m s)
-  same-octets = rw same-frames
-
   same-store : storeOn (inputFor wide m s) ≡ storeOn (inputFor narrow m s)
   unfolding storeOn storeAfter
   same-store = by-test (isAccepted (verdictOn (inputFor narrow m s))) (λ t. rw (e, t, same-done t)) (λ f. rw (e, f))
 
   -- The whole answer.
-  pub same-answer : answerTo wide m s ≡ answerTo narrow m s
+  pub same-answer : reference (inputFor wide m s) ≡ reference (inputFor narrow m s)
   unfolding outcomeOf outAfter
   same-answer = rw (same-frames, same-reports, same-store, e)

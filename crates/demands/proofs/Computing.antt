@@ -5,7 +5,7 @@ use Rattle.laws.specs.First.{firstFrom}
 use Rattle.laws.specs.Fold.{answers, joined}
 use Rattle.octets.specs.Copy.{laid, between}
 use Rattle.crc.specs.Register.{takeBit, takeBits, crcFrom, crcOf}
-use Rattle.checks.specs.Table.{answer, place}
+use Rattle.checks.specs.Table.{answer}
 use Rattle.tc.specs.Layout.{errorControl, fieldsOf, applicationOf, headOf, bodyOf, packetOf}
 use Rattle.tc.specs.Reader.{lengthRight, controlRight, firstFault, headerFault, readerRows}
 use Rattle.map.specs.Place.{wordOctets, findIn, inside, octetsOf, octetAt, storedAt}
@@ -13,7 +13,7 @@ use Rattle.map.specs.Sound.{storeAllowed, areaSound, apart, pairSound, everyPai
 use Rattle.wider.specs.Wider.{keepsRights, keepsWords, covers, covered, keepsFlags, wider}
 use Rattle.blocks.specs.Blocks.{blockAt, blocksFrom, wordsOf}
 use Rattle.blocks.specs.Form.{headRight, blockRight, blockFault, endOf, exact, formOf}
-use Rattle.tm.specs.Counts.{categoryOf, countIn, advanced, inRange}
+use Rattle.counts.specs.Counts.{categoryOf, countIn, advanced, inRange}
 use Rattle.tm.specs.Frame.{headOf as frameHeadOf, frameOf, stamped, framesOf, countsAfter}
 use Rattle.requests.specs.Request.{serves, memoryAsked, askedFor, outsideOf}
 use Rattle.decide.specs.Table.{callerRight, callerRows, areaRows, memoryRows, connectionRows, requestRows, rows, decided}
@@ -22,9 +22,10 @@ use Rattle.terminal.specs.Outcome.{reportsFor, reportsDue, storeAfter, framesDu
 use Rattle.characters.specs.Digits.{valueOf, digitOf, textOf, allDigits, octetsIn}
 use Rattle.lines.specs.Lines.{linesOf}
 use Rattle.lines.specs.Feed.{outputOf}
-use Rattle.hexline.specs.Line.{isPacket, closingOf, packetAnswer, packetAfter, lineAnswer, lineAfter}
+use Rattle.packetline.specs.Packet.{isPacket, closingOf}
+use Rattle.hexline.specs.Line.{packetAnswer, packetAfter, lineAnswer, lineAfter}
 
 -- On an `unfolding` line it stands for all that its own line names.
 unfoldable pub all : Unit {0}
-unfolding xor every among firstFrom joined laid between takeBit takeBits crcFrom crcOf answer place errorControl fieldsOf applicationOf headOf bodyOf packetOf lengthRight controlRight firstFault headerFault readerRows wordOctets findIn inside octetsOf octetAt storedAt storeAllowed areaSound apart pairSound everyPair sound keepsRights keepsWords covers covered keepsFlags wider blockAt blocksFrom wordsOf headRight blockRight blockFault endOf exact formOf categoryOf countIn advanced inRange frameHeadOf frameOf stamped framesOf countsAfter serves memoryAsked askedFor outsideOf callerRight callerRows areaRows memoryRows connectionRows requestRows rows decided entriesOf loaded reportsFor reportsDue storeAfter framesDue outcomeOf outAfter storeOn answers valueOf digitOf textOf linesOf outputOf allDigits octetsIn isPacket closingOf packetAnswer packetAfter lineAnswer lineAfter
+unfolding xor every among firstFrom joined laid between takeBit takeBits crcFrom crcOf answer errorControl fieldsOf applicationOf headOf bodyOf packetOf lengthRight controlRight firstFault headerFault readerRows wordOctets findIn inside octetsOf octetAt storedAt storeAllowed areaSound apart pairSound everyPair sound keepsRights keepsWords covers covered keepsFlags wider blockAt blocksFrom wordsOf headRight blockRight blockFault endOf exact formOf categoryOf countIn advanced inRange frameHeadOf frameOf stamped framesOf countsAfter serves memoryAsked askedFor outsideOf callerRight callerRows areaRows memoryRows connectionRows requestRows rows decided entriesOf loaded reportsFor reportsDue storeAfter framesDue outcomeOf outAfter storeOn answers valueOf digitOf textOf linesOf outputOf allDigits octetsIn isPacket closingOf packetAnswer packetAfter lineAnswer lineAfter
 all = tt

@@ -1,57 +1,55 @@
--- The inspector's first demand: "Bad packets, bad memory maps and short buffers are refused by the number in document 01. A refusal changes no memory word, and its reports and counters are those the table states." (That the terminal, reader and writer end on every input without a fault is what the check of each crate's code proves.)
+-- The first demand is met by the terminal, the reader and the writer of document 01.
 -- Assumes nothing.
 use mathlib.Core.Path.{_≡_, refl, sym, ap, _∙_}
-use mathlib.Core.Bool.{Bool, true, false, false≢true}
-use mathlib.Core.Logic.{_⊎_}
-use mathlib.Core.List.{List, [], _∷_, _++_, map, append-nil}
-use Prim.Native.Nat.{ℕ}
-use lib.ListN.{length, drop}
-use Rattle.laws.specs.Each.{among}
+use mathlib.Core.Bool.{true, false, cond, false≢true}
+use mathlib.Core.List.{List, [], append-nil}
+use Prim.Native.Nat.{ℕ, _+_, _≤_, _<_}
+use native.Mathlib.Omega.{arith}
+use lib.ListN.{length}
+use lib.Dec.{leb}
+use borrow.Author.Tests.{le-leb, lt-leb}
 use Rattle.laws.specs.Fold.{joined}
 use Rattle.laws.proofs.Tests.{by-test}
+use Rattle.octets.specs.Copy.{placed, nowhere}
+use Rattle.octets.proofs.Between.{between-front}
 use Rattle.checks.specs.declared.Refusal.{Refusal}
 use Rattle.checks.specs.declared.Verdict.{Verdict}
-use Rattle.checks.specs.declared.Verdict.the-variants.{Accepted, Refused}
-use Rattle.checks.specs.Verdict.{checkNumber, isAccepted, numberOf, detailOf}
-use Rattle.checks.specs.Table.{Row, First, AllHold}
+use Rattle.checks.specs.Verdict.{isAccepted, numberOf, verdictBy}
+use Rattle.checks.specs.Table.{Row}
 use Rattle.checks.proofs.Numbers.{silent-numbers, silent-refuses}
-use Rattle.checks.proofs.Table.{answer-from}
-use Rattle.checks.proofs.Verdicts.{first-refuses, all-accept}
-use Rattle.tc.specs.Layout.{fieldsOf, applicationOf}
-use Rattle.tc.specs.Reader.{readerRows}
+use Rattle.checks.proofs.Table.{row-passes, row-refuses, rows-end}
+use Rattle.checks.proofs.Verdicts.{first-refuses, all-accept, refused-first}
+use Rattle.tc.specs.Layout.{around, dataMost, fieldsOf, applicationOf, dataSpan}
+use Rattle.tc.specs.Reader.{readerRows, judged, noFields, readingOf}
+use Rattle.writer.specs.declared.Order.{Order}
+use Rattle.writer.specs.declared.Written.{Written}
+use Rattle.writer.specs.declared.Written.the-variants.{Packet}
+use Rattle.writer.specs.Writer.{writtenNumber, fieldsRight, writerRows, writtenOf, isPacket, bufferAfter}
 use Rattle.map.specs.declared.Profile.{Profile}
-use Rattle.tm.specs.declared.counts.Counts.{Counts}
-use Rattle.tm.specs.Counts.{nextCount, categoryOf, countIn}
-use Rattle.tm.specs.Frame.{frameOf, stamped}
-use Rattle.reports.specs.Source.{echoOf, failure}
+use Rattle.counts.specs.declared.Counts.{Counts}
+use Rattle.counts.specs.Counts.{categoryOf, countIn}
+use Rattle.tm.specs.Frame.{stamped}
 use Rattle.requests.specs.declared.Request.the-variants.{Memory, Connection}
 use Rattle.requests.specs.declared.Asked.{Asked}
 use Rattle.requests.specs.declared.Asked.the-variants.{Known, Unknown}
-use Rattle.decide.specs.Table.{callerRows, areaRows, memoryRows, connectionRows, serviceRows, askedBy, requestRows, rows, decided}
-use Rattle.decide.proofs.Decided.{accepted-facts}
-use Rattle.terminal.specs.Outcome.{Input, verdictOn, framesDue, octetsDue, outcomeOf, outAfter, storeOn}
+use Rattle.decide.specs.Table.{callerRows, areaRows, memoryRows, connectionRows, serviceRows, requestRows, rows, decided}
+use Rattle.terminal.specs.Outcome.{Input, verdictOn, octetsDue, outcomeOf, storeOn}
 use Rattle.terminal.proofs.Answering.{refused-store}
-use Rattle.terminal.proofs.Refusing.{no-frame, no-octets, same-state, same-buffer, one-frame, one-count, frame-octets, frame-first}
+use Rattle.terminal.proofs.Refusing.{no-octets, same-state, same-buffer, one-frame, one-count, frame-octets, frame-first}
+use Rattle.demands.specs.Terminal.{reference, rowsOn, askedOn}
+use Rattle.demands.specs.Packets.{referenceReader, referenceWriter}
+use Rattle.demands.specs.Refusing.{numbersOf, serviceNumbers, Decides, unreported, Unchanged, refusalFrame, Reported, Refuses, InOrder, ReaderRefuses, Writable, WriterRefuses}
 
--- ---- by the number in document 01
+-- A table decides its own verdict.
+pub table-decides : (table : List (Row Refusal)) → Decides table (verdictBy table)
+table-decides table = record {
+  refuses = first-refuses table;
+  accepts = all-accept table;
+  when = λ n f. let e = first-refuses table (f .0) (f .1) in (ap isAccepted e, ap numberOf e ∙ f .2);
+  only = λ n g. let f = refused-first table (g .0) in (f .0, f .1, sym (ap numberOf (f .2)) ∙ g .1);
+}
 
--- What a packet asks for.
-abbrev pub askedOn : Input → Asked
-askedOn i = askedBy (fieldsOf (i .packet))
-
--- The table of checks on an input.
-abbrev pub rowsOn : Input → List (Row Refusal)
-rowsOn i = rows (i .profile) (i .state) (length (i .store)) (length (i .out)) (i .packet)
-
--- The numbers of some rows.
-abbrev pub numbersOf : List (Row Refusal) → List ℕ
-numbersOf table = map (λ (r : Row Refusal). checkNumber (r .refusal .check)) table
-
--- The numbers of the checks that a service adds: for service 6 there is a 5 for the head of its data and one for the blocks.
-abbrev pub serviceNumbers : Asked → List ℕ
-serviceNumbers (Known (Memory action)) = 5 ∷ 5 ∷ 17 ∷ 18 ∷ 19 ∷ []
-serviceNumbers (Known Connection) = 5 ∷ []
-serviceNumbers Unknown = []
+-- ---- the terminal
 
 service-numbers : (p : Profile) (asked : Asked) (d : List ℕ) → numbersOf (serviceRows p asked d) ≡ serviceNumbers asked
 unfolding memoryRows areaRows connectionRows
@@ -59,95 +57,87 @@ service-numbers p (Known (Memory action)) d = refl
 service-numbers p (Known Connection) d = refl
 service-numbers p Unknown d = refl
 
--- The table's numbers, in checking order.
-pub table-numbers : (i : Input) → numbersOf (rowsOn i) ≡ 40 ∷ 41 ∷ 42 ∷ 1 ∷ 2 ∷ 16 ∷ 0 ∷ 3 ∷ 4 ∷ serviceNumbers (askedOn i)
+-- The table has the numbers of document 01: a terminal whose table has 17 before 5 is ruled out.
+pub table-in-order : InOrder
 unfolding rows callerRows readerRows requestRows
-table-numbers i = rw (service-numbers (i .profile) (askedOn i) (applicationOf (i .packet)))
+table-in-order i = rw (service-numbers (i .profile) (askedOn i) (applicationOf (i .packet)))
 
--- What is not known is never accepted: its table ends with 4.
-pub unknown-refused : (i : Input) → askedOn i ≡ Unknown → isAccepted (verdictOn i) ≡ false
-unknown-refused i e =
-    by-test (isAccepted (verdictOn i))
-    (λ t.
-    let offered = accepted-facts (i .profile) (i .state) (length (i .store)) (length (i .out)) (i .packet) t .offered in
-    absurd (false≢true (rw e at offered)))
-    (λ f. f)
-
--- The table decides: its first row that fails gives the verdict, acceptance is given where every row holds, and it is always one or the other.
-pub record Decides (i : Input) : Type 0 where
-  pub refuses : (r : Row Refusal) → First (rowsOn i) r → verdictOn i ≡ Refused (r .refusal)
-  pub accepts : AllHold (rowsOn i) → verdictOn i ≡ Accepted
-  pub either : AllHold (rowsOn i) ⊎ ((r : Row Refusal) × First (rowsOn i) r)
-
--- On every input.
-pub table-decides : (i : Input) → Decides i
-unfolding decided
-table-decides i = record { refuses = first-refuses (rowsOn i); accepts = all-accept (rowsOn i); either = answer-from (rowsOn i) }
-
--- ---- memory
-
--- A refusal changes no memory word.
-pub refusal-keeps-store : (i : Input) → isAccepted (verdictOn i) ≡ false → storeOn i ≡ i .store
+refusal-keeps-store : (i : Input) → isAccepted (verdictOn i) ≡ false → storeOn i ≡ i .store
 refusal-keeps-store i h = sym (refused-store i h)
 
--- ---- 40, 41 and 42
-
--- The refusals without a frame, by their numbers.
-abbrev pub unreported : Verdict → Bool
-unreported v = among (numberOf v) (40 ∷ 41 ∷ 42 ∷ [])
-
--- Nothing at all is changed.
-pub record Unchanged (i : Input) : Type 0 where
-  pub frames : framesDue i ≡ []
-  pub octets : octetsDue i ≡ []
-  pub written : outcomeOf i .written ≡ 0
-  pub counts : outcomeOf i .state ≡ i .state
-  pub store : storeOn i ≡ i .store
-  pub buffer : outAfter i ≡ i .out
-
--- 40, 41 and 42 give no frame, write 0 octets and change nothing.
-pub silent-changes-nothing : (i : Input) → unreported (verdictOn i) ≡ true → Unchanged i
+silent-changes-nothing : (i : Input) → unreported (verdictOn i) ≡ true → Unchanged i (reference i)
 unfolding outcomeOf
 silent-changes-nothing i h =
     let s = silent-numbers (verdictOn i) ∙ h in
     record {
-      frames = no-frame i s;
-      octets = no-octets i s;
       written = ap length (no-octets i s);
-      counts = same-state i s;
+      state = same-state i s;
       store = refusal-keeps-store i (silent-refuses (verdictOn i) s);
       buffer = same-buffer i s;
     }
 
--- ---- any other refusal
-
--- The (1,2) of a packet, stamped with the count of category 1: the first four octets of the packet, code and detail.
-abbrev pub refusalFrame : Input → List ℕ
-refusalFrame i =
-    frameOf (record { pid = i .profile .pid; count = i .state .counts .reports; time = i .time; kind = 1; subtype = 2 })
-    (echoOf (i .packet) ++ failure (numberOf (verdictOn i)) (detailOf (verdictOn i)))
-
--- One such frame, of 24 octets. It stands at the front of the buffer, whose other octets stay; category 1 has advanced by one; category 9 and the store stay.
-pub record Reported (i : Input) : Type 0 where
-  pub frames : framesDue i ≡ refusalFrame i ∷ []
-  pub octets : octetsDue i ≡ refusalFrame i
-  pub long : length (octetsDue i) ≡ 24
-  pub written : outcomeOf i .written ≡ 24
-  pub counts : outcomeOf i .state ≡ record { counts = record { reports = nextCount (i .state .counts .reports); services = i .state .counts .services } }
-  pub store : storeOn i ≡ i .store
-  pub buffer : outAfter i ≡ octetsDue i ++ drop 24 (i .out)
-
--- Any other refusal gives that frame, the time being six octets.
-pub refusal-reports : (i : Input) → isAccepted (verdictOn i) ≡ false → unreported (verdictOn i) ≡ false → length (i .time) ≡ 6 → Reported i
+refusal-reports : (i : Input) → isAccepted (verdictOn i) ≡ false → unreported (verdictOn i) ≡ false → Reported i (reference i)
 unfolding outcomeOf stamped countIn categoryOf joined
-refusal-reports i r h six =
+refusal-reports i r h =
     let s = silent-numbers (verdictOn i) ∙ h in
+    let octets : octetsDue i ≡ refusalFrame i (verdictOn i) = ap joined (one-frame i r s) ∙ append-nil (refusalFrame i (verdictOn i)) in
     record {
-      frames = one-frame i r s;
-      octets = ap joined (one-frame i r s) ∙ append-nil (refusalFrame i);
-      long = frame-octets i r s six;
-      written = frame-octets i r s six;
-      counts = ap (λ (c : Counts). record { counts = c }) (one-count i r s);
+      written = frame-octets i r s;
+      long = ap length (sym octets) ∙ frame-octets i r s;
+      buffer = frame-first i r s ∙ rw octets;
+      state = ap (λ (c : Counts). record { counts = c }) (one-count i r s);
       store = refusal-keeps-store i r;
-      buffer = frame-first i r s six;
     }
+
+-- The terminal refuses as the demand has it. Ruled out: one that gives no report of a refusal, one that writes a refused load, one that accepts or refuses everything.
+pub terminal-refuses : Refuses reference
+unfolding outcomeOf decided
+terminal-refuses = record {
+  decides = λ i. table-decides (rowsOn i);
+  silent = silent-changes-nothing;
+  reported = refusal-reports;
+}
+
+-- ---- the reader
+
+none-placed : (p : List ℕ) → placed nowhere p ≡ []
+none-placed p = between-front 0 p (omega arith)
+
+-- The reader refuses as the demand has it. Ruled out: one that hands back data of a refused packet.
+pub reader-refuses : ReaderRefuses referenceReader
+unfolding readingOf judged
+reader-refuses = record {
+  decides = λ p. table-decides (readerRows p);
+  fields = λ p h. rw h;
+  no-data = λ p h. rw h (none-placed p);
+}
+
+-- ---- the writer
+
+module _ (o : Order) (data′ buffer : List ℕ) where
+  abbrev answer : Written
+  answer = writtenOf o (length data′) (length buffer)
+
+  bad-field : fieldsRight o ≡ false → writtenNumber answer ≡ 50
+  unfolding writtenOf writerRows Rattle.checks.specs.Table.answer
+  bad-field h = rw h
+
+  bad-data : fieldsRight o ≡ true → dataMost < length data′ → writtenNumber answer ≡ 51
+  unfolding writtenOf writerRows Rattle.checks.specs.Table.answer
+  bad-data h long = rw (h, lt-leb (length data′) dataMost long)
+
+  no-room : fieldsRight o ≡ true → length data′ ≤ dataMost → length buffer < length data′ + around → writtenNumber answer ≡ 52
+  unfolding writtenOf writerRows Rattle.checks.specs.Table.answer
+  no-room h short full = rw (h, le-leb (length data′) dataMost short, lt-leb (length data′ + around) (length buffer) full)
+
+  pub fits : Writable o data′ buffer → answer ≡ Packet (length data′ + around)
+  unfolding writtenOf writerRows Rattle.checks.specs.Table.answer
+  fits w = rw (w .fields, le-leb (length data′) dataMost (w .short), le-leb (length data′ + around) (length buffer) (w .room))
+
+  kept : isPacket answer ≡ false → bufferAfter o data′ buffer ≡ buffer
+  unfolding bufferAfter
+  kept h = rw h
+
+-- The writer refuses as the demand has it. Ruled out: one that swaps 50 and 51, one that writes before it refuses.
+pub writer-refuses : WriterRefuses referenceWriter
+writer-refuses = record { field-50 = bad-field; data-51 = bad-data; room-52 = no-room; accepts = fits; keeps = kept }

@@ -6,7 +6,9 @@ use Prim.Native.Nat.{ℕ}
 use Rattle.tc.specs.declared.Reading.{Reading}
 use Rattle.writer.specs.declared.Order.{Order}
 use Rattle.writer.specs.declared.Written.{Written}
-use Rattle.tc.specs.Reader.{readingOf}
+use Rattle.octets.specs.declared.copy.Span.{Span}
+use Rattle.octets.specs.Copy.{Hands}
+use Rattle.tc.specs.Reader.{Reads}
 use Rattle.writer.specs.Writer.{Writes}
 use Rattle.terminal.specs.declared.Outcome.{Outcome}
 use Rattle.terminal.specs.Outcome.{Input, Answered}
@@ -22,8 +24,12 @@ pub determined : {A : Type 0} {x y defined : A} → x ≡ defined → y ≡ defi
 determined p q = p ∙ sym q
 
 -- The reader: verdict, fields, and where the application data stands.
-pub reader-determined : (packet : List ℕ) (r s : Reading) → r ≡ readingOf packet → s ≡ readingOf packet → r ≡ s
+pub reader-determined : (packet : List ℕ) (r s : Reading) → Reads packet r → Reads packet s → r ≡ s
 reader-determined packet r s p q = determined p q
+
+-- The data part: its octets.
+pub part-determined : (part : Span) (packet r s : List ℕ) → Hands part packet r → Hands part packet s → r ≡ s
+part-determined part packet r s p q = determined p q
 
 -- The writer: its answer, and the buffer to the last octet.
 pub writer-determined : (o : Order) (application buffer : List ℕ) (r s : Written) (left right : List ℕ)
@@ -41,7 +47,7 @@ pub line-determined : (answer : List ℕ) (after : Station) (at : ℕ) (text : L
     → Said answer after at text r store out left → Said answer after at text s store′ out′ right
     → (r ≡ s) × (store ≡ store′) × (out ≡ out′) × (left ≡ right)
 line-determined answer after at text r s store store′ out out′ left right p q =
-    ((λ i. record { at = determined (p .at-is) (q .at-is) i; state = determined (p .state-is) (q .state-is) i }), determined (p .store-is) (q .store-is), determined (p .out-is) (q .out-is), determined (p .text-is) (q .text-is))
+    ((λ i. record { at = determined (p .says .at-is) (q .says .at-is) i; state = determined (p .state-is) (q .state-is) i }), determined (p .store-is) (q .store-is), determined (p .out-is) (q .out-is), determined (p .says .text-is) (q .says .text-is))
 
 -- Input that is fed, for any program over lines: the text, how far it goes, what goes on, and what is left of the input.
 pub feed-determined : {M : Type 0} (t : Turn M) (input text : List ℕ) (r s : Progress) (after after′ : M) (kept kept′ left right : List ℕ)

@@ -10,7 +10,7 @@ use Rattle.map.specs.Made.{allFlags, areaOf, profileWith}
 use Rattle.terminal.specs.Outcome.{Input, input, octetsDue, outcomeOf}
 use Rattle.lineunit.specs.Unit.{lineTime, lineOut}
 use Rattle.demands.proofs.Computing.{all}
-use Rattle.demands.proofs.Packets.{from}
+use Rattle.demands.specs.Cases.{from}
 
 -- (6,5) with both acks: eight blocks of 240 words, one behind the other.
 abbrev pub eightBlocks : List ℕ

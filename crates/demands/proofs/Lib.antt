@@ -4,12 +4,13 @@ pub mod Demand1
 pub mod Demand2
 pub mod Demand3
 pub mod Determined
+pub mod Determines
 pub mod Largest
 pub mod Numbered
 pub mod Numbers
-pub mod Packets
 pub mod Parting
 pub mod Printed
 pub mod Rows
 pub mod StandIns
+pub mod Trips
 pub mod Widened

@@ -30,7 +30,8 @@ use Rattle.requests.specs.declared.Asked.the-variants.{Known, Unknown}
 use Rattle.requests.specs.Request.{areaNamed}
 use Rattle.decide.specs.Table.{outsideNumber, allInside, callerRows, areaRows, memoryRows, connectionRows, serviceRows, askedBy, requestRows, rows, decided}
 use Rattle.demands.proofs.Widened.{outside-later}
-use Rattle.demands.proofs.Rows.{parts, same-verdict}
+use Rattle.demands.specs.Widening.{parts}
+use Rattle.demands.proofs.Rows.{same-verdict}
 
 -- ---- what a number that may part settles
 

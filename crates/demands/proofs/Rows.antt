@@ -1,19 +1,21 @@
 -- The tables of checks of a narrower profile and of a wider one for one packet, side by side, row by row.
 -- Assumes nothing.
-use mathlib.Core.Path.{_≡_, refl}
-use mathlib.Core.Bool.{Bool, true, false, _||_, false≢true}
+use mathlib.Core.Path.{_≡_, refl, sym, ap, _∙_}
+use mathlib.Core.Bool.{Bool, true, false, _&&_, _||_, false≢true}
 use mathlib.Core.List.{List, [], _∷_}
 use Prim.Native.Nat.{ℕ, _≤_}
-use lib.Dec.{eqb}
-use Rattle.laws.specs.Each.{among}
-use Rattle.laws.proofs.Tests.{by-test}
+use native.Mathlib.Omega.{arith}
+use lib.ListN.{length, getD, drop}
+use lib.Dec.{eqb, leb}
+use borrow.Author.Tests.{leb-true}
+use Rattle.laws.specs.Each.{every, among}
+use Rattle.laws.proofs.Tests.{by-test, both}
 use Rattle.octets.specs.Fields.{apidOf}
 use Rattle.checks.specs.declared.Refusal.{Refusal}
-use Rattle.checks.specs.declared.Verdict.{Verdict}
 use Rattle.checks.specs.declared.Verdict.the-variants.{Accepted, Refused}
-use Rattle.checks.specs.Table.{Row, place}
-use Rattle.checks.specs.Verdict.{numberOf}
-use Rattle.checks.proofs.Table.{Beside, none, more, same-row, parting-row, beside-self, beside-append, beside-later, beside-same}
+use Rattle.checks.specs.Table.{Row, answer}
+use Rattle.checks.specs.Verdict.{checkNumber, verdictBy}
+use Rattle.checks.proofs.Table.{Beside, none, more, same-row, parting-row, beside-self, beside-append, beside-same}
 use Rattle.tc.specs.declared.Fields.{Fields}
 use Rattle.tc.specs.Layout.{category, fieldsOf, applicationOf}
 use Rattle.tc.specs.Reader.{readerRows}
@@ -31,6 +33,8 @@ use Rattle.requests.specs.declared.Asked.{Asked}
 use Rattle.requests.specs.declared.Asked.the-variants.{Known, Unknown}
 use Rattle.requests.specs.Request.{memoryType, connectionType, serves, flagFor, offers, areaNamed}
 use Rattle.decide.specs.Table.{callerRight, callerRows, areaRows, memoryRows, connectionRows, serviceRows, askedBy, requestRows, rows, decided}
+use Rattle.demands.specs.Refusing.{numbersOf, tableNumbers}
+use Rattle.demands.specs.Widening.{parts, order, placeIn, rank}
 use Rattle.demands.proofs.Widened.{found-grows, right-grows, inside-grows}
 
 -- ---- what wider flags offer
@@ -62,10 +66,6 @@ module _ (wide narrow : Flags) (kept : KeptFlags wide narrow) where
   offers-grows Unknown = λ h. h
 
 -- ---- the whole table
-
--- The refusals by which two profiles may part: 3, 4, 17, 18 and 19. Acceptance, which has no number and counts as 0, is none of them.
-abbrev pub parts : Verdict → Bool
-parts v = among (numberOf v) (3 ∷ 4 ∷ 17 ∷ 18 ∷ 19 ∷ [])
 
 -- Two tables side by side, where the rows of those refusals may part.
 abbrev Together : List (Row Refusal) → List (Row Refusal) → Type 0
@@ -119,6 +119,56 @@ module _ (wide narrow : Profile) (octets : ℕ) (w : wider wide narrow octets �
     unfolding decided
     same-verdict h = beside-same Accepted Refused parts rows-beside (λ r. refl) h
 
-    -- The wider's first failing check is the same or a later one.
-    pub no-earlier : place (rows narrow state octets out packet) ≤ place (rows wide state octets out packet)
-    no-earlier = beside-later rows-beside
+-- ---- the same check or a later one
+
+-- The place of a row's number in checking order.
+abbrev rankOf : Row Refusal → ℕ
+rankOf r = placeIn (checkNumber (r .refusal .check)) order
+
+-- Some numbers stand in checking order.
+unfoldable ascends : List ℕ → Bool
+ascends [] = true
+ascends (n ∷ rest) = every (λ m. leb (placeIn n order) (placeIn m order)) rest && ascends rest
+
+-- So do those of every table.
+table-ascends : (asked : Asked) → ascends (tableNumbers asked) ≡ true
+unfolding ascends every placeIn
+table-ascends (Known (Memory action)) = refl
+table-ascends (Known Connection) = refl
+table-ascends Unknown = refl
+
+place-most : (n : ℕ) (l : List ℕ) → placeIn n l ≤ length l
+unfolding placeIn
+place-most n [] = omega arith
+place-most n (x ∷ l) = by-test (eqb n x) (λ t. rw t (omega arith)) (λ f. rw f (omega (arith, place-most n l)))
+
+-- A table whose numbers all come from a place on decides a verdict from there on.
+least-rank : (k : ℕ) (table : List (Row Refusal)) → k ≤ length order → every (λ m. leb k (placeIn m order)) (numbersOf table) ≡ true → k ≤ rank (verdictBy table)
+unfolding every answer
+least-rank k [] h e = h
+least-rank k (r ∷ rest) h e =
+    let s = both (leb k (rankOf r)) (every (λ m. leb k (placeIn m order)) (numbersOf rest)) e in
+    by-test (r .holds) (λ t. rw t (least-rank k rest h (s .1))) (λ f. rw f (leb-true k (rankOf r) (s .0)))
+
+-- Of two tables side by side with the same numbers in checking order, the wider never refuses at an earlier check.
+later : {ns ws : List (Row Refusal)} → Together ns ws → numbersOf ns ≡ numbersOf ws → ascends (numbersOf ws) ≡ true → rank (verdictBy ns) ≤ rank (verdictBy ws)
+unfolding answer ascends
+later none e a = omega arith
+later (more {n = n} {w = w} {ns = ns} {ws = ws} g rest) e a =
+    let s = both (every (λ m. leb (rankOf w) (placeIn m order)) (numbersOf ws)) (ascends (numbersOf ws)) a in
+    let same : rankOf n ≡ rankOf w = ap (λ (l : List ℕ). placeIn (getD l 0 0) order) e in
+    let behind : numbersOf ns ≡ numbersOf ws = ap (λ (l : List ℕ). drop 1 l) e in
+    by-test (n .holds)
+    (λ t. rw (t, g .grows t) (later rest behind (s .1)))
+    (λ f.
+    by-test (w .holds)
+    (λ u. rw (f, u, same) (least-rank (rankOf w) ws (place-most (checkNumber (w .refusal .check)) order) (s .0)))
+    (λ v. rw (f, v, same) (omega arith)))
+
+-- On one packet, from the same start, the wider's verdict is at the same check or a later one.
+pub no-earlier : (wide narrow : Profile) (state : State) (octets out : ℕ) (packet : List ℕ) → wider wide narrow octets ≡ true
+    → numbersOf (rows narrow state octets out packet) ≡ tableNumbers (askedBy (fieldsOf packet)) → numbersOf (rows wide state octets out packet) ≡ tableNumbers (askedBy (fieldsOf packet))
+    → rank (decided narrow state octets out packet) ≤ rank (decided wide state octets out packet)
+unfolding decided
+no-earlier wide narrow state octets out packet w n v =
+    later (rows-beside wide narrow octets w state out packet) (n ∙ sym v) (rw v (table-ascends (askedBy (fieldsOf packet))))

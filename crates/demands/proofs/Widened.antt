@@ -32,7 +32,7 @@ use Rattle.requests.specs.Request.{rightFor, carriedBy, isFound, outsideOf}
 use Rattle.decide.specs.Table.{hasRight, outsideNumber, allInside, serviceRows, taskFor}
 use Rattle.decide.proofs.Decided.{memory-facts}
 use Rattle.memory.specs.Memory.{entriesOf, loaded}
-use Rattle.terminal.specs.Reports.{dumped}
+use Rattle.laying.specs.Reports.{dumped}
 use Rattle.terminal.specs.Done.{memoryDone, done}
 
 -- ---- what the narrower's area allows, the wider's allows

@@ -1,1 +1,1 @@
-// No code: the inspector's demands as theorems over the definitions of the crates below. See proofs/.
+// No code: the inspector's demands as predicates over any terminal, reader and writer (specs/), and what meets and what fails them (proofs/).

@@ -1,5 +1,2 @@
-pub mod Packets
-pub mod Cutting
+pub mod Said
 pub mod Serving
-pub mod Pieces
-pub mod Streaming

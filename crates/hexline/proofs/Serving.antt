@@ -1,55 +1,46 @@
 -- From the terminal's answer to what is said of a packet and of a line.
 -- Assumes nothing.
-use mathlib.Core.Path.{_≡_, refl, ap, ap₂, _∙_}
+use mathlib.Core.Path.{_≡_, refl, ap, ap₂, subst, _∙_}
 use mathlib.Core.Bool.{true, false}
-use mathlib.Core.List.{List}
-use Prim.Native.Nat.{ℕ, _+_, _/_, _≤_}
+use mathlib.Core.List.{List, _++_}
+use Prim.Native.Nat.{ℕ, _/_, _≤_}
 use native.Mathlib.Omega.{arith}
 use lib.ListN.{length, take, length-append}
 use Rattle.octets.specs.Copy.{laid}
-use Rattle.octets.proofs.Laid.{laid-length, laid-front, laid-append}
+use Rattle.octets.proofs.Laid.{laid-length}
 use Rattle.laws.proofs.Tests.{by-test}
 use Rattle.map.specs.declared.Profile.{Profile}
 use Rattle.terminal.specs.declared.Outcome.{Outcome}
-use Rattle.terminal.specs.Outcome.{Input, verdictOn, reportsOn, framesDue, octetsDue, outcomeOf, outAfter, Answered}
-use Rattle.terminal.specs.Act.{answerMost}
+use Rattle.terminal.specs.Outcome.{Input, verdictOn, framesDue, octetsDue, Answered}
 use Rattle.hexline.specs.declared.Written.{Written}
-use Rattle.hexline.specs.Line.{Station, packetInput, isPacket, linesOf, closing, closingOf, packetAnswer, packetAfter, lineAnswer, lineAfter}
-use Rattle.lineunit.specs.Unit.{lineTime}
+use Rattle.saying.specs.Text.{Says}
+use Rattle.saying.proofs.Saying.{says-append}
+use Rattle.packetline.specs.Packet.{isPacket, linesOf, closing, closingOf}
+use Rattle.packetline.proofs.Packets.{packet-facts}
+use Rattle.packetline.proofs.Cutting.{cut-most, closing-length}
+use Rattle.hexline.specs.Line.{Station, packetInput, packetAnswer, packetAfter, lineAnswer, lineAfter}
 use Rattle.hexline.specs.Whole.{answerRoom}
 use Rattle.characters.specs.Digits.{textOf, octetsIn}
 use Rattle.characters.proofs.Texts.{decoded-front}
 use Rattle.tm.specs.Frame.{cut}
-use Rattle.tm.proofs.Frames.{cut-frames}
 use Rattle.hexline.specs.Said.{Said}
-use Rattle.hexline.proofs.Packets.{packet-facts}
-use Rattle.hexline.proofs.Cutting.{cut-most, closing-length}
-use Rattle.terminal.proofs.Due.{due-bounded, due-fits}
+use Rattle.hexline.proofs.Said.{said-alone}
+use Rattle.terminal.proofs.Due.{due-bounded, due-fits, out-length, front-due, due-cut, verdict-due, written-due}
 
 -- What stands at the front of the output buffer after an answer.
 pub record Front (i : Input) (r : Outcome) (out : List ℕ) : Type 0 where
-  pub small : r .written ≤ answerMost
   pub inside : r .written ≤ length out
   pub frames : take (r .written) out ≡ octetsDue i
 
-pub answered-front : (i : Input) (r : Outcome) (store out : List ℕ) → length (i .time) ≡ 6 → Answered i r store out → Front i r out
-unfolding outcomeOf outAfter
-answered-front i r store out six a =
-    let written : r .written ≡ length (octetsDue i) = ap (λ (o : Outcome). o .written) (a .outcome-is) in
+pub answered-front : (i : Input) (r : Outcome) (store out : List ℕ) → Answered i r store out → Front i r out
+answered-front i r store out a =
+    let written : r .written ≡ length (octetsDue i) = ap (λ (o : Outcome). o .written) (a .outcome-is) ∙ written-due i in
     record {
-      small = omega (arith, written, due-bounded i six);
-      inside = omega (arith, written, due-fits i six, ap length (a .out-is), laid-length (i .out) 0 (octetsDue i));
-      frames = ap₂ (λ (n : ℕ) (o : List ℕ). take n o) written (a .out-is) ∙ laid-front (i .out) (octetsDue i) (due-fits i six);
+      inside = omega (arith, written, due-fits i, ap length (a .out-is), out-length i);
+      frames = ap₂ (λ (n : ℕ) (o : List ℕ). take n o) written (a .out-is) ∙ front-due i;
     }
 
 module _ (p : Profile) (m : Station) (packet : List ℕ) where
-  -- The frames due are what their octets are cut into.
-  frames-cut : cut (octetsDue (packetInput p m packet)) ≡ framesDue (packetInput p m packet)
-  unfolding framesDue
-  frames-cut =
-      let i : Input = packetInput p m packet in
-      cut-frames (p .pid) lineTime (m .machine .state .counts) (reportsOn i) refl (due-bounded i refl)
-
   -- An answer has at most 16,384 characters.
   pub packet-answer-most : length (packetAnswer p m packet) ≤ answerRoom
   unfolding packetAnswer
@@ -59,35 +50,27 @@ module _ (p : Profile) (m : Station) (packet : List ℕ) where
         arith,
         length-append (linesOf (framesDue i)) (closingOf (verdictOn i)),
         closing-length (verdictOn i),
-        ap (λ (fs : List (List ℕ)). length (linesOf fs)) frames-cut,
+        ap (λ (fs : List (List ℕ)). length (linesOf fs)) (due-cut i),
         cut-most (octetsDue i),
-        due-bounded i refl,
+        due-bounded i,
       )
 
   -- The frames written one a line, and the closing line behind them.
   pub packet-said : (at : ℕ) (text : List ℕ) (r : Outcome) (store out t₁ t₂ : List ℕ) (end last : ℕ)
       → Answered (packetInput p m packet) r store out
-      → end ≡ at + length (linesOf (cut (take (r .written) out))) → t₁ ≡ laid text at (linesOf (cut (take (r .written) out)))
-      → last ≡ end + 5 → t₂ ≡ laid t₁ end (closingOf (r .verdict))
+      → Says (linesOf (cut (take (r .written) out))) at text end t₁ → Says (closingOf (r .verdict)) end t₁ last t₂
       → Said (packetAnswer p m packet) (packetAfter p m packet) at text (record { at = last; state = r .state }) store out t₂
-  unfolding packetAnswer packetAfter outcomeOf
-  packet-said at text r store out t₁ t₂ end last a e f g h =
+  unfolding packetAnswer packetAfter
+  packet-said at text r store out t₁ t₂ end last a f g =
       let i : Input = packetInput p m packet in
-      let front = answered-front i r store out refl a in
-      let lines : List ℕ = linesOf (framesDue i) in
-      let due : linesOf (cut (take (r .written) out)) ≡ lines = ap (λ (o : List ℕ). linesOf (cut o)) (front .frames) ∙ ap linesOf frames-cut in
-      let v : closingOf (r .verdict) ≡ closingOf (verdictOn i) = ap (λ (o : Outcome). closingOf (o .verdict)) (a .outcome-is) in
-      let place : end ≡ at + length lines = e ∙ ap (λ (l : List ℕ). at + length l) due in
+      let front = answered-front i r store out a in
+      let due : linesOf (cut (take (r .written) out)) ≡ linesOf (framesDue i) = ap (λ (o : List ℕ). linesOf (cut o)) (front .frames) ∙ ap linesOf (due-cut i) in
+      let v : closingOf (r .verdict) ≡ closingOf (verdictOn i) = ap (λ (o : Outcome). closingOf (o .verdict)) (a .outcome-is) ∙ ap closingOf (verdict-due i) in
       record {
-        at-is = omega (arith, g, place, length-append lines (closingOf (verdictOn i)), closing-length (verdictOn i));
+        says = subst (λ (l : List ℕ). Says l at text last t₂) (ap₂ (λ (l k : List ℕ). l ++ k) due v) (says-append f g);
         state-is = ap (λ (o : Outcome). o .state) (a .outcome-is);
         store-is = a .store-is;
         out-is = a .out-is;
-        text-is =
-            h
-            ∙ ap₂ (λ (d : List ℕ) (n : ℕ). laid d n (closingOf (r .verdict))) (f ∙ ap (λ (l : List ℕ). laid text at l) due) place
-            ∙ ap (λ (l : List ℕ). laid (laid text at lines) (at + length lines) l) v
-            ∙ laid-append text at lines (closingOf (verdictOn i));
       }
 
 -- A packet line's octets, at the front of the buffer that they were written to.
@@ -105,11 +88,11 @@ decoded line buffer packet count good room half f =
     }
 
 module _ (p : Profile) (m : Station) (line : List ℕ) where
-  -- 0200 and nothing changed.
-  pub line-refused : (at end : ℕ) (text t : List ℕ) → isPacket line ≡ false → end ≡ at + 5 → t ≡ laid text at (closing 2 0)
+  -- 0200, and nothing changed.
+  pub line-refused : (at end : ℕ) (text t : List ℕ) → isPacket line ≡ false → Says (closing 2 0) at text end t
       → Said (lineAnswer p m line) (lineAfter p m line) at text (record { at = end; state = m .machine .state }) (m .machine .store) (m .out) t
-  unfolding lineAnswer lineAfter textOf
-  line-refused at end text t bad e f = rw bad (record { at-is = e; state-is = refl; store-is = refl; out-is = refl; text-is = f })
+  unfolding lineAnswer lineAfter
+  line-refused at end text t bad s = rw bad (said-alone m at end text t (closing 2 0) s)
 
   -- What is said of the packet is said of the line.
   pub line-served : (packet : List ℕ) (at : ℕ) (text : List ℕ) (r : Written) (store out t : List ℕ) → isPacket line ≡ true → packet ≡ octetsIn line

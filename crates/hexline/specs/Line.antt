@@ -1,26 +1,13 @@
 -- Document 01, "The line program": what one line is answered.
-use mathlib.Core.Bool.{Bool, cond, _&&_}
-use mathlib.Core.List.{List, [], _∷_, _++_, map}
-use Prim.Native.Nat.{ℕ, _%_}
-use lib.ListN.{length}
-use lib.Dec.{leb, eqb}
-use Rattle.laws.specs.Fold.{joined}
-use Rattle.checks.specs.declared.Verdict.{Verdict}
-use Rattle.checks.specs.Verdict.{isAccepted, numberOf}
+use mathlib.Core.Bool.{cond}
+use mathlib.Core.List.{List, _++_}
+use Prim.Native.Nat.{ℕ}
 use Rattle.map.specs.declared.Profile.{Profile}
 use Rattle.terminal.specs.Outcome.{Input, verdictOn, framesDue, outAfter}
 use Rattle.terminal.specs.Run.{Machine, Step, inputFor, after}
-use Rattle.lines.specs.Lines.{newline}
-use Rattle.characters.specs.Digits.{textOf, allDigits, octetsIn}
+use Rattle.characters.specs.Digits.{octetsIn}
+use Rattle.packetline.specs.Packet.{isPacket, linesOf, closing, closingOf}
 use Rattle.lineunit.specs.Unit.{lineTime}
-
--- The most characters of a packet line.
-abbrev pub lineMost : ℕ
-lineMost = 4096
-
--- A packet line: digits only, an even count of them, and at most 4,096.
-unfoldable pub isPacket : List ℕ → Bool
-isPacket line = allDigits line && eqb (length line % 2) 0 && leb (length line) lineMost
 
 -- What goes from line to line: the terminal's machine, and the output buffer as it stands.
 pub record Station : Type 0 where
@@ -33,22 +20,6 @@ stepFor m packet = record { packet = packet; time = lineTime; out = m .out }
 
 abbrev pub packetInput : Profile → Station → List ℕ → Input
 packetInput p m packet = inputFor p (m .machine) (stepFor m packet)
-
--- A line of octets.
-abbrev pub lineOf : List ℕ → List ℕ
-lineOf octets = textOf octets ++ newline ∷ []
-
--- Frames, one a line.
-abbrev pub linesOf : List (List ℕ) → List ℕ
-linesOf frames = joined (map lineOf frames)
-
--- A closing line: two octets.
-abbrev pub closing : ℕ → ℕ → List ℕ
-closing kind number = lineOf (kind ∷ number ∷ [])
-
--- The closing line of a verdict: 0000 accepted, or 01 and the number as one octet.
-unfoldable pub closingOf : Verdict → List ℕ
-closingOf v = closing (cond (isAccepted v) 0 1) (numberOf v)
 
 -- What a packet is answered: its frames, one a line, then the closing line.
 unfoldable pub packetAnswer : Profile → Station → List ℕ → List ℕ

@@ -1,11 +1,10 @@
 -- Document 01, "The line program": the program over lines, and what goes from line to line at the start.
 use Prim.Native.Nat.{ℕ}
 use Rattle.map.specs.declared.Profile.{Profile}
-use Rattle.lines.specs.Cuts.{started as lines-started}
 use Rattle.lines.specs.Turn.{Program}
 use Rattle.lines.specs.Feed.{LineProgram, overPieces}
-use Rattle.hexline.specs.declared.Progress.{Progress}
-use Rattle.hexline.specs.Line.{lineMost, Station, closing, lineAnswer, lineAfter}
+use Rattle.packetline.specs.Packet.{lineMost, closing}
+use Rattle.hexline.specs.Line.{Station, lineAnswer, lineAfter}
 use Rattle.lineunit.specs.Unit.{lineState, lineStore, lineOut}
 
 -- The most characters of an answer.
@@ -30,7 +29,3 @@ pieceProgram p = overPieces (lineProgram p)
 -- Before the first line: counts of 0, a store of 128 zero octets, and a buffer of 4,096 zero octets for the frames.
 abbrev pub first : Station
 first = record { machine = record { state = lineState; store = lineStore }; out = lineOut }
-
--- How far the program has come before the first read.
-abbrev pub atFirst : Progress
-atFirst = record { lines = lines-started; state = lineState }

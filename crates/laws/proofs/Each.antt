@@ -2,7 +2,7 @@
 -- Assumes nothing.
 use mathlib.Core.Bool.{Bool, true, false, false≢true}
 use mathlib.Core.Logic.{⊎-elim}
-use mathlib.Core.List.{List, [], _∷_, List·Memᴰ, List·Memᴰ·head, List·Memᴰ·tail}
+use mathlib.Core.List.{List, [], _∷_, _++_, List·Memᴰ, List·Memᴰ·head, List·Memᴰ·tail}
 use mathlib.Core.Path.{_≡_, refl, sym, ap, _∙_}
 use Prim.Native.Nat.{ℕ}
 use lib.Dec.{eqb}
@@ -41,3 +41,8 @@ every-among test n (x ∷ rest) h k =
     (λ e. ap test (eqb-true n x e) ∙ search halves)
     (λ m. every-among test n rest (search halves) m)
     (or-cases (eqb n x) (among n rest) k)
+
+-- What each of a list has, each of its back part has.
+pub each-behind : {A : Type 0} (P : A → Type 0) (xs ys : List A) → Each P (xs ++ ys) → Each P ys
+each-behind P [] ys h = h
+each-behind P (x ∷ xs) ys h = each-behind P xs ys (h .1)

@@ -1,6 +1,6 @@
 // The line program of document 01: a packet a line on standard input, and on standard output its frames and a closing line.
 use console::Got;
-use hexline::Progress;
+use hexfeed::Progress;
 
 // How much each buffer holds. The input has room behind the longest open piece, 4,096 characters, for 65,536 more.
 const INPUT_ROOM: usize = 69632;
@@ -36,7 +36,7 @@ fn write(text: &Text, count: usize) -> bool {
 
 // Answers what is left at the end of the input.
 fn end(p: Progress, input: &Input, store: &mut Store, frames: &mut Frames, text: &mut Text) {
-    let last = hexline::feed::finish(lineunit::profile(), p, input, store, frames, text);
+    let last = hexfeed::finish(lineunit::profile(), p, input, store, frames, text);
     write(text, last.at);
 }
 
@@ -74,7 +74,7 @@ fn turn(
     frames: &mut Frames,
     text: &mut Text,
 ) -> Next {
-    let fed = hexline::feed::feed(lineunit::profile(), p, input, store, frames, text);
+    let fed = hexfeed::feed(lineunit::profile(), p, input, store, frames, text);
     let l = fed.lines;
     if !write(text, l.at) {
         return Next { on: false, p: fed };
@@ -90,7 +90,7 @@ fn run(input: &mut Input, store: &mut Store, frames: &mut Frames, text: &mut Tex
     let mut turns = u64::MAX;
     let mut t = Next {
         on: true,
-        p: hexline::start(),
+        p: hexfeed::start(),
     };
     while turns > 0 && t.on {
         let p = t.p;

@@ -4,7 +4,7 @@
 use mathlib.Core.Path.{_≡_, refl, sym, ap, ap₂, subst, _∙_}
 use mathlib.Core.Bool.{Bool, true, false}
 use mathlib.Core.List.{List, [], _∷_, append-nil}
-use Prim.Native.Nat.{ℕ, _+_, _-_, _≤_, _<_}
+use Prim.Native.Nat.{ℕ, _+_, _-_, min, _≤_, _<_}
 use native.Mathlib.Omega.{arith}
 use lib.ListN.{length, take, drop, length-append, length-take, length-drop}
 use lib.Seq.{drop-drop}
@@ -127,35 +127,36 @@ module _ {M : Type 0} (p : Program M) where
 
       -- A piece is answered.
       answered-next : (m′ : M) (at : ℕ) (text′ : List ℕ) → p .most ≤ length text - w .at
-          → m′ ≡ p .becomes m nextPiece → at ≡ w .at + length (p .says m nextPiece) → text′ ≡ laid text (w .at) (p .says m nextPiece)
+          → m′ ≡ p .becomes m nextPiece → at ≡ min (w .at + length (p .says m nextPiece)) (length text + 1) → text′ ≡ laid text (w .at) (p .says m nextPiece)
           → Walking p whole input text₀ (passedOf input w n end at) m′ text′
       answered-next m′ at text′ h f g i =
           let answer : List ℕ = p .says m nextPiece in
           let few : length answer ≤ p .most = fits .answer-most m nextPiece (omega (arith, begins .small, length-take n (drop (w .from) input))) in
-          let left : length text₀ - w .at - length answer ≡ length text₀ - at = omega (arith, g) in
+          let behind : at ≡ w .at + length answer = omega (arith, g, few, h, k .room) in
+          let left : length text₀ - w .at - length answer ≡ length text₀ - at = omega (arith, behind) in
           let rest : List ℕ = drop (passedOf input w n end at .from) input in
-          let behind : drop (takenBy n end) (drop (w .from) input) ≡ rest = drop-drop (takenBy n end) (w .from) input ∙ ap (λ (i : ℕ). drop i input) (sym place) in
+          let input-left : drop (takenBy n end) (drop (w .from) input) ≡ rest = drop-drop (takenBy n end) (w .from) input ∙ ap (λ (i : ℕ). drop i input) (sym place) in
           let turns : turnOf p (length text₀ - w .at) m (w .begins) (drop (w .from) input) ≡ saying answer (turnOf p (length text₀ - at) m′ (endsLine end) rest) =
           begins .answers (length text₀ - w .at) m (omega (arith, h, k .size))
-          ∙ ap₂ (λ (r : ℕ) (s : List ℕ). saying answer (turnOf p r (p .becomes m nextPiece) (endsLine end) s)) left behind
+          ∙ ap₂ (λ (r : ℕ) (s : List ℕ). saying answer (turnOf p r (p .becomes m nextPiece) (endsLine end) s)) left input-left
           ∙ ap (λ (o : M). saying answer (turnOf p (length text₀ - at) o (endsLine end) rest)) (sym f) in
           let size : length text′ ≡ length text = ap length i ∙ laid-length text (w .at) answer in
           record {
             inside = omega arith;
             going = refl;
-            room = omega (arith, size, g, few, h, k .room);
+            room = omega (arith, size, behind, few, h, k .room);
             size = size ∙ k .size;
-            rest = rest-next whole (turnOf p (length text₀ - w .at) m (w .begins) (drop (w .from) input)) (turnOf p (length text₀ - at) m′ (endsLine end) rest) text₀ text text′ answer (w .at) at (k .rest) turns g i;
+            rest = rest-next whole (turnOf p (length text₀ - w .at) m (w .begins) (drop (w .from) input)) (turnOf p (length text₀ - at) m′ (endsLine end) rest) text₀ text text′ answer (w .at) at (k .rest) turns behind i;
           }
 
       pub walking-next : (u : List ℕ) (m′ : M) (at : ℕ) (text′ : List ℕ) (w′ : Walk) → p .most ≤ length text - w .at → u ≡ take n (drop (w .from) input)
-          → m′ ≡ p .becomes m (piece (w .begins) u end) → at ≡ w .at + length (p .says m (piece (w .begins) u end)) → text′ ≡ laid text (w .at) (p .says m (piece (w .begins) u end))
+          → m′ ≡ p .becomes m (piece (w .begins) u end) → at ≡ min (w .at + length (p .says m (piece (w .begins) u end))) (length text + 1) → text′ ≡ laid text (w .at) (p .says m (piece (w .begins) u end))
           → w′ ≡ passedOf input w n end at → Walking p whole input text₀ w′ m′ text′
       walking-next u m′ at text′ w′ h d f g i e =
           subst (λ (v : Walk). Walking p whole input text₀ v m′ text′) (sym e)
           (answered-next m′ at text′ h
           (f ∙ ap (λ (t : List ℕ). p .becomes m (piece (w .begins) t end)) d)
-          (g ∙ ap (λ (t : List ℕ). w .at + length (p .says m (piece (w .begins) t end))) d)
+          (g ∙ ap (λ (t : List ℕ). min (w .at + length (p .says m (piece (w .begins) t end))) (length text + 1)) d)
           (i ∙ ap (λ (t : List ℕ). laid text (w .at) (p .says m (piece (w .begins) t end))) d))
 
 -- ---- the input at the front of a buffer
@@ -181,7 +182,7 @@ module _ {M : Type 0} where
 
   module _ (p : Program M) (m : M) (begins : Bool) (text : List ℕ) where
     nothing-left : (rest : List ℕ) → restOf rest ≡ More → Finishes p m begins rest text 0 m text
-    nothing-left [] e = record { at-is = refl; after-is = refl; text-is = sym (laid-none text 0) }
+    nothing-left [] e = record { at-is = omega arith; after-is = refl; text-is = sym (laid-none text 0) }
     nothing-left (c ∷ rest) e = let z : _≡_ {A = ℕ} 0 1 = cc in absurd (omega arith)
 
     -- Nothing is left.
@@ -189,7 +190,7 @@ module _ {M : Type 0} where
     finishes-none front rest d e = subst (λ (s : List ℕ). Finishes p m begins s text 0 m text) d (nothing-left front e)
 
     piece-left : (rest : List ℕ) (n : ℕ) (end : End) (at : ℕ) (after : M) (text′ : List ℕ) → restOf rest ≡ Whole n end
-        → after ≡ p .becomes m (piece begins rest end) → at ≡ 0 + length (p .says m (piece begins rest end)) → text′ ≡ laid text 0 (p .says m (piece begins rest end))
+        → after ≡ p .becomes m (piece begins rest end) → at ≡ min (0 + length (p .says m (piece begins rest end))) (length text + 1) → text′ ≡ laid text 0 (p .says m (piece begins rest end))
         → Finishes p m begins rest text at after text′
     piece-left [] n end at after text′ e f g h = let z : _≡_ {A = ℕ} 0 1 = cc in absurd (omega arith)
     piece-left (c ∷ rest) n end at after text′ e f g h =
@@ -202,6 +203,6 @@ module _ {M : Type 0} where
 
     -- A last piece is.
     pub finishes-last : (front rest : List ℕ) (n : ℕ) (end : End) (at : ℕ) (after : M) (text′ : List ℕ) → front ≡ rest → restOf front ≡ Whole n end
-        → after ≡ p .becomes m (piece begins front end) → at ≡ 0 + length (p .says m (piece begins front end)) → text′ ≡ laid text 0 (p .says m (piece begins front end))
+        → after ≡ p .becomes m (piece begins front end) → at ≡ min (0 + length (p .says m (piece begins front end))) (length text + 1) → text′ ≡ laid text 0 (p .says m (piece begins front end))
         → Finishes p m begins rest text at after text′
     finishes-last front rest n end at after text′ d e f g h = subst (λ (s : List ℕ). Finishes p m begins s text at after text′) d (piece-left front n end at after text′ e f g h)

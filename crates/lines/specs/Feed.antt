@@ -2,7 +2,7 @@
 use mathlib.Core.Path.{_≡_}
 use mathlib.Core.Bool.{Bool, cond}
 use mathlib.Core.List.{List, []}
-use Prim.Native.Nat.{ℕ}
+use Prim.Native.Nat.{ℕ, _+_, min}
 use lib.ListN.{length, take, drop}
 use lib.Dec.{leb}
 use denote.Ref.{RefT, now}
@@ -82,9 +82,9 @@ pub record Feeds {M : Type 0} (t : Turn M) (input text : List ℕ) (p : Progress
   pub text-is : text′ ≡ laid text 0 (t .said)
   pub input-is : input′ ≡ laid input 0 (t .left)
 
--- What a caller is promised of a program at the end of the input: what is said of what is left stands at the front of the text.
+-- What a caller is promised of a program at the end of the input: what is said of what is left stands at the front of the text, and the place behind it is answered; one past the text's end says that some of it found no room.
 pub record Finishes {M : Type 0} (p : Program M) (m : M) (begins : Bool) (rest text : List ℕ) (at : ℕ) (after : M) (text′ : List ℕ) : Type 0 where
-  pub at-is : at ≡ length (lastSays p m begins rest)
+  pub at-is : at ≡ min (length (lastSays p m begins rest)) (length text + 1)
   pub after-is : after ≡ lastBecomes p m begins rest
   pub text-is : text′ ≡ laid text 0 (lastSays p m begins rest)
 

@@ -5,7 +5,7 @@ use lib.ListN.{replicate}
 use Rattle.map.specs.declared.Area.{Area}
 use Rattle.map.specs.declared.Profile.{Profile}
 use Rattle.map.specs.Made.{allFlags, areaOf, profileWith}
-use Rattle.tm.specs.Counts.{noCounts}
+use Rattle.counts.specs.Counts.{noCounts}
 use Rattle.decide.specs.declared.State.{State}
 use Rattle.decide.specs.Table.{outLeast}
 

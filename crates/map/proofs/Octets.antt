@@ -2,13 +2,15 @@
 -- Assumes nothing.
 use mathlib.Core.Bool.{true}
 use mathlib.Core.Logic.{_⊎_, inl, inr, ⊎-elim}
-use mathlib.Core.Path.{_≡_, refl}
+use mathlib.Core.Path.{_≡_, refl, sym, ap, _∙_}
 use mathlib.Core.List.{List}
 use Prim.Native.Nat.{ℕ, _+_, _*_, _-_, _^_, _≤_, _<_}
 use native.Mathlib.Omega.{arith}
 use lib.ListN.{length}
 use borrow.Author.Tests.{leb-true}
+use Rattle.octets.specs.Copy.{laid, between}
 use Rattle.octets.proofs.Between.{between-most}
+use Rattle.octets.proofs.Laid.{laid-read}
 use Rattle.map.specs.declared.Area.{Area}
 use Rattle.map.specs.declared.Found.the-variants.{At}
 use Rattle.map.specs.declared.Profile.{Profile}
@@ -111,3 +113,11 @@ octet-same a b x h l e = omega arith
 pub stored-same : (a b : Area) (store : List ℕ) (start words : ℕ) → octetAt a start ≡ octetAt b start → storedAt a store start words ≡ storedAt b store start words
 unfolding storedAt octetsOf
 stored-same a b store start words e = rw e refl
+
+-- Words that were laid at an address are those read from there.
+pub stored-laid : (a : Area) (store : List ℕ) (start words : ℕ) (s : List ℕ) → length s ≡ octetsOf a words → octetAt a start + length s ≤ length store
+    → storedAt a (laid store (octetAt a start) s) start words ≡ s
+unfolding storedAt
+stored-laid a store start words s long room =
+    ap (λ (n : ℕ). between (octetAt a start) (octetAt a start + n) (laid store (octetAt a start) s)) (sym long)
+    ∙ laid-read store (octetAt a start) s room

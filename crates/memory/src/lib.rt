@@ -32,7 +32,7 @@ fn load_block(area: Area, application: &[u8], place: usize, store: &mut [u8]) ->
 }
 
 // Lays the entries of (6,10) from a place on, and answers how many octets they are.
-pub fn entries(area: Area, application: &[u8], store: &[u8], at: u16, out: &mut [u8]) -> usize
+pub fn entries(area: Area, application: &[u8], store: &[u8], at: u32, out: &mut [u8]) -> usize
     ensures { λ r. ⌜ LaysEntries area (now (application .entry)) (now (store .entry)) at (now (out .entry)) r (now (out .exit)) ⌝ }
 {
     let count = blocks::reading::block_count(application);

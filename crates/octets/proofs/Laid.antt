@@ -2,14 +2,15 @@
 -- Assumes nothing.
 use mathlib.Core.Path.{_≡_, refl, sym, ap, _∙_}
 use mathlib.Core.Logic.{_⊎_, inl, inr, ⊎-elim}
-use mathlib.Core.List.{List, [], _∷_, _++_}
-use Prim.Native.Nat.{ℕ, _+_, _-_, min, _≤_, _<_}
+use mathlib.Core.List.{List, [], _∷_, _++_, append-assoc}
+use Prim.Native.Nat.{ℕ, zero, suc, _+_, _-_, min, _≤_, _<_}
 use native.Mathlib.Nat.{add-zero}
 use native.Mathlib.Numerals.{add-one}
 use native.Mathlib.Omega.{arith}
 use lib.ListN.{length, getD, set, take, drop, take-append-drop, length-set}
-use lib.Seq.{sets, length-sets, sets-eq, set-out, getD-set-other, take-suc, take-all, length-take-le, take-append-seam}
-use Rattle.octets.specs.Copy.{laid}
+use lib.Seq.{sets, length-sets, sets-eq, set-out, getD-set-same, getD-set-other, take-suc, take-all, length-take-le, take-append-seam, drop-append-seam}
+use Rattle.octets.specs.Copy.{laid, between}
+use Rattle.octets.proofs.Between.{between-eq}
 use Rattle.laws.proofs.Order.{by-order}
 
 -- `laid` is the library's run of stores.
@@ -79,3 +80,30 @@ laid-elsewhere d at (x ∷ s) k h =
     let other : k ≡ at → ⊥ = λ e. ⊎-elim (λ (l : k < at). omega arith) (λ (l : at + length (x ∷ s) ≤ k). omega arith) h in
     let more : (k < at + 1) ⊎ (at + 1 + length s ≤ k) = ⊎-elim (λ (l : k < at). inl (omega arith)) (λ (l : at + length (x ∷ s) ≤ k). inr (omega arith)) h in
     laid-elsewhere (set d at x) (at + 1) s k more ∙ getD-set-other d at k x 0 other
+
+-- Each octet laid stands in its place, where the buffer has one.
+pub laid-inside : (d : List ℕ) (at : ℕ) (s : List ℕ) (k : ℕ) → k < length s → at + k < length d → getD (laid d at s) (at + k) 0 ≡ getD s k 0
+unfolding laid
+laid-inside d at [] k h room = absurd (omega arith)
+laid-inside d at (x ∷ s) zero h room =
+    ap (λ (n : ℕ). getD (laid (set d at x) (at + 1) s) n 0) (add-zero at)
+    ∙ laid-elsewhere (set d at x) (at + 1) s at (inl (omega arith))
+    ∙ getD-set-same d at x 0 (omega arith)
+laid-inside d at (x ∷ s) (suc k) h room =
+    let place : at + suc k ≡ at + 1 + k = omega arith in
+    ap (λ (n : ℕ). getD (laid (set d at x) (at + 1) s) n 0) place
+    ∙ laid-inside (set d at x) (at + 1) s k (omega arith) (omega (arith, length-set d at x))
+
+-- What was laid where it fits is read there.
+pub laid-read : (d : List ℕ) (at : ℕ) (s : List ℕ) → at + length s ≤ length d → between at (at + length s) (laid d at s) ≡ s
+laid-read d at s h =
+    let front : List ℕ = take at d in
+    let rest : List ℕ = drop (at + length s) d in
+    let size : length front ≡ at = length-take-le at d (omega arith) in
+    let count : at + length s - at ≡ length s = omega arith in
+    between-eq at (at + length s) (laid d at s) (omega arith) (omega (arith, laid-length d at s))
+    ∙ ap (λ (n : ℕ). take n (drop at (laid d at s))) count
+    ∙ ap (λ (r : List ℕ). take (length s) (drop at r)) (laid-eq d at s h ∙ append-assoc front s rest)
+    ∙ ap (λ (n : ℕ). take (length s) (drop n (front ++ (s ++ rest)))) (sym size)
+    ∙ ap (λ (r : List ℕ). take (length s) r) (drop-append-seam front (s ++ rest))
+    ∙ take-append-seam s rest

@@ -1,4 +1,5 @@
 -- Octets laid into a buffer, and parts of a slice. Everything that writes a buffer goes through `laid`.
+use mathlib.Core.Path.{_≡_}
 use mathlib.Core.Bool.{cond, _&&_}
 use mathlib.Core.List.{List, [], _∷_}
 use Prim.Native.Nat.{ℕ, _+_, _-_}
@@ -18,6 +19,10 @@ between start end s = cond (leb start end && leb end (length s)) (take (end - st
 -- The octets of a slice that a part names.
 abbrev pub placed : Span → List ℕ → List ℕ
 placed p s = between (p .from) (p .to) s
+
+-- What a caller is promised of a part that is handed on: the octets that it names.
+abbrev pub Hands : Span → List ℕ → List ℕ → Type 0
+Hands p s r = r ≡ placed p s
 
 -- A part with nothing in it.
 abbrev pub nowhere : Span

@@ -2,7 +2,7 @@
 ghost use mathlib.Core.Path.{_≡_};
 ghost use Prim.Native.Nat.{_-_, min};
 ghost use lib.ListN.{length};
-ghost use Rattle.octets.specs.Copy.{laid, between, placed};
+ghost use Rattle.octets.specs.Copy.{laid, between, Hands};
 
 // A part of a slice, by the places where it begins and ends.
 pub struct Span {
@@ -52,7 +52,7 @@ pub fn part(s: &[u8], start: usize, end: usize) -> &[u8]
 
 // The octets of a slice that a part names.
 pub fn placed(s: &[u8], p: Span) -> &[u8]
-    ensures { λ r. ⌜ now r ≡ placed p (now (s .entry)) ⌝ }
+    ensures { λ r. ⌜ Hands p (now (s .entry)) (now r) ⌝ }
 {
     part(s, p.from, p.to)
 }

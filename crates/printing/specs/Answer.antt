@@ -11,8 +11,8 @@ use Rattle.checks.specs.Verdict.{isAccepted, numberOf, detailOf}
 use Rattle.tc.specs.declared.Fields.{Fields}
 use Rattle.writer.specs.declared.Written.{Written}
 use Rattle.writer.specs.Writer.{writtenNumber, writtenLength}
-use Rattle.tm.specs.declared.counts.Counts.{Counts}
-use Rattle.printing.specs.Text.{spaced}
+use Rattle.counts.specs.declared.Counts.{Counts}
+use Rattle.saying.specs.Text.{spaced}
 
 -- 0000, or 01 and the number as one octet.
 unfoldable pub codeText : Bool → ℕ → List ℕ

@@ -1,21 +1,20 @@
 -- Commands that set and commands that print, and the octets that a line gives.
 -- Assumes nothing.
-use mathlib.Core.Path.{_≡_, refl, sym, ap, ap₂, _∙_}
+use mathlib.Core.Path.{_≡_, refl, ap, ap₂, _∙_}
 use mathlib.Core.Bool.{true}
 use mathlib.Core.List.{List}
 use Prim.Native.Nat.{ℕ, _+_, _/_, min, _≤_}
 use native.Mathlib.Omega.{arith}
 use lib.ListN.{length, take, length-drop}
-use lib.Dec.{leb, eqb}
-use borrow.Author.Tests.{eqb-true, leb-true}
-use Rattle.laws.proofs.Tests.{by-test, halves}
+use Rattle.laws.proofs.Tests.{by-test}
 use Rattle.octets.specs.Copy.{laid}
-use Rattle.octets.proofs.Laid.{laid-none}
 use Rattle.characters.specs.Digits.{octetsIn}
 use Rattle.characters.proofs.Texts.{decoded-front}
 use Rattle.commands.specs.declared.session.Session.{Session}
-use Rattle.commands.specs.Form.{isLine, isSpaced, lineMost, digitsOf, givenIn, commandOf, commandIn}
-use Rattle.printing.specs.Text.{Says}
+use Rattle.commands.specs.Form.{isLine, digitsOf, givenIn, commandOf, commandIn}
+use Rattle.commands.proofs.Forms.{no-command, line-most}
+use Rattle.saying.specs.Text.{Says}
+use Rattle.saying.proofs.Saying.{says-none}
 use Rattle.showing.specs.declared.Served.{Served}
 use Rattle.showing.specs.Shows.{Bench, Serves}
 use Rattle.replies.specs.Does.{setting, printing, does}
@@ -24,10 +23,10 @@ use Rattle.replies.specs.Does.{setting, printing, does}
 pub sets : {session s : Session} {store out store′ out′ : List ℕ} {at place : ℕ} {text : List ℕ} {r : Served}
     → r ≡ record { session = session; at = place } → place ≡ min at (length text + 1) → session ≡ s → store ≡ store′ → out ≡ out′
     → Serves (setting s store′ out′) at text r store out text
-sets {session = session} {at = at} {place = place} {text = text} {r = r} e f g h k =
+sets {place = place} {r = r} e f g h k =
     let place-is : r .at ≡ place = ap (λ (v : Served). v .at) e in
     record {
-      says = record { at-is = omega (arith, place-is, f); text-is = sym (laid-none text at) };
+      says = says-none (place-is ∙ f);
       session-is = ap (λ (v : Served). v .session) e ∙ g;
       store-is = h;
       out-is = k;
@@ -45,29 +44,18 @@ prints e h =
       out-is = refl;
     }
 
--- A line has at most 140,002 characters.
-line-most : (line : List ℕ) → isLine line ≡ true → length line ≤ lineMost
-unfolding isLine
-line-most line good =
-    by-test (eqb (length line) 1)
-    (λ one. omega (arith, eqb-true (length line) 1 one))
-    (λ more.
-    let spaced : isSpaced line ≡ true = rw more at good in
-    let most : leb (length line) lineMost ≡ true = search halves in
-    leb-true (length line) lineMost most)
-
 -- Doing a line's command with the octets at the front of what holds them is doing it with those that the line gives: of a bad line they may be cut, and nothing is done with them.
 served-given : (line octets given : List ℕ) (b : Bench) → length octets ≡ 70000
     → given ≡ take (length (digitsOf line) / 2) (laid octets 0 (givenIn line))
     → does (commandOf line given) b given ≡ does (commandIn line) b (givenIn line)
-unfolding commandOf does
+unfolding does
 served-given line octets given b room e =
     by-test (isLine line)
     (λ good.
     let all : given ≡ givenIn line =
     e ∙ decoded-front octets (digitsOf line) (omega (arith, line-most line good, length-drop 2 line)) in
     ap (λ (g : List ℕ). does (commandOf line g) b g) all)
-    (λ bad. rw bad)
+    (λ bad. rw (no-command line given bad, no-command line (givenIn line) bad))
 
 -- What the command of a line does with the octets decoded from its digits is what the line asks.
 pub line-served : (line octets : List ℕ) (b : Bench) {octets′ digits given : List ℕ} {command : ℕ} {at : ℕ} {text : List ℕ} {r : Served} {store out text′ : List ℕ}

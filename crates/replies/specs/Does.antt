@@ -8,7 +8,7 @@ use Rattle.octets.specs.Copy.{laid}
 use Rattle.commands.specs.Letters.{letterP, letterS, letterK, letterT, letterB, letterX, letterO, letterM, letterR, letterW, letterC, letterV}
 use Rattle.commands.specs.declared.session.Session.{Session}
 use Rattle.commands.specs.Session.{withProfile, withState, withTime, withStored, withRoom, profileIn, stateIn, timeIn, filling}
-use Rattle.printing.specs.Text.{lineOf}
+use Rattle.saying.specs.Text.{lineOf}
 use Rattle.showing.specs.Shows.{Bench, Does, storeNow, outNow, answering, readText, writeText, controlText, widerText}
 
 -- The answer to a bad line.

@@ -2,12 +2,11 @@
 use commands::form;
 use commands::session;
 use commands::session::Session;
-use printing::text;
 use showing::Served;
 ghost use mathlib.Core.Path.{_≡_};
 ghost use Rattle.octets.specs.Copy.{laid};
 ghost use Rattle.commands.specs.Form.{givenIn, commandIn};
-ghost use Rattle.printing.specs.Text.{SaysBy};
+ghost use Rattle.saying.specs.Text.{SaysBy};
 ghost use Rattle.showing.specs.Shows.{benchOf, ServedBy};
 ghost use Rattle.replies.specs.Does.{does, badText};
 
@@ -37,7 +36,7 @@ pub fn serve(
 pub fn refuse(text: &mut [u8], at: usize) -> usize
     ensures { λ r. ⌜ SaysBy badText at text r ⌝ }
 {
-    text::line(text, at, &[2, 0])
+    saying::line(text, at, &[2, 0])
 }
 
 // Each command, given the octets that it takes; any other letter is that of a bad line.
@@ -53,14 +52,14 @@ fn act(
     ensures { λ r. ⌜ ServedBy (does letter (benchOf s store out) (now (given .entry))) at store out text r ⌝ }
 {
     match letter {
-        b'P' => gives(session::set_profile(s, given), text::kept(text, at)),
-        b'S' => gives(session::set_store(s, given, store), text::kept(text, at)),
-        b'K' => gives(session::set_counts(s, given), text::kept(text, at)),
-        b'T' => gives(session::set_time(s, given), text::kept(text, at)),
-        b'B' => gives(session::set_buffer(s, given, out), text::kept(text, at)),
+        b'P' => gives(session::set_profile(s, given), saying::kept(text, at)),
+        b'S' => gives(session::set_store(s, given, store), saying::kept(text, at)),
+        b'K' => gives(session::set_counts(s, given), saying::kept(text, at)),
+        b'T' => gives(session::set_time(s, given), saying::kept(text, at)),
+        b'B' => gives(session::set_buffer(s, given, out), saying::kept(text, at)),
         b'X' => showing::answer(s, given, store, out, text, at),
-        b'O' => gives(s, text::line(text, at, lines::front(out, s.room))),
-        b'M' => gives(s, text::line(text, at, lines::front(store, s.stored))),
+        b'O' => gives(s, saying::line(text, at, lines::front(out, s.room))),
+        b'M' => gives(s, saying::line(text, at, lines::front(store, s.stored))),
         b'R' => gives(s, showing::read(given, text, at)),
         b'W' => gives(s, showing::write(given, text, at)),
         b'C' => gives(s, showing::control(given, text, at)),

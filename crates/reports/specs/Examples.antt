@@ -3,7 +3,7 @@ use mathlib.Core.Path.{_≡_, refl}
 use mathlib.Core.List.{List, [], _∷_, _++_}
 use Prim.Native.Nat.{ℕ}
 use Rattle.tm.specs.declared.Stamp.{Stamp}
-use Rattle.tm.specs.Counts.{categoryOf}
+use Rattle.counts.specs.Counts.{categoryOf}
 use Rattle.tm.specs.Frame.{headOf, frameOf}
 use Rattle.reports.specs.Source.{failure}
 

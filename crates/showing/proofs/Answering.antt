@@ -9,16 +9,16 @@ use lib.ListN.{length, take, drop, length-take}
 use lib.Seq.{take-all, take-append-le}
 use Rattle.laws.proofs.Order.{by-order}
 use Rattle.octets.specs.Copy.{laid}
-use Rattle.octets.proofs.Laid.{laid-eq, laid-front, laid-length}
+use Rattle.octets.proofs.Laid.{laid-eq}
 use Rattle.terminal.specs.declared.Outcome.{Outcome}
-use Rattle.terminal.specs.Outcome.{Input, input, octetsDue, outcomeOf, outAfter, storeOn, Answered}
-use Rattle.terminal.proofs.Due.{due-fits}
+use Rattle.terminal.specs.Outcome.{Input, input, octetsDue, outAfter, storeOn, Answered}
+use Rattle.terminal.proofs.Due.{due-fits, out-length, front-due, verdict-due, written-due}
 use Rattle.terminal.proofs.Storing.{store-length}
 use Rattle.commands.specs.declared.session.Session.{Session}
 use Rattle.commands.specs.Session.{withState}
-use Rattle.printing.specs.Text.{lineOf, Says}
+use Rattle.saying.specs.Text.{lineOf, Says}
 use Rattle.printing.specs.Answer.{verdictText, countsText}
-use Rattle.printing.proofs.Saying.{says-append}
+use Rattle.saying.proofs.Saying.{says-append}
 use Rattle.showing.specs.Shows.{Bench, inputAt, answerText, benchAfter, answering, AnsweredOver, Serves}
 
 -- The front of a buffer is the same where its length is cut to the buffer's first.
@@ -43,43 +43,41 @@ pub answered-over : (b : Bench) (packet : List ℕ) {m n : ℕ} {r : Outcome} {s
     → m ≡ min (b .session .stored) (length (b .store)) → n ≡ min (b .session .room) (length (b .out))
     → Answered (input (b .session .profile) (b .session .state) (b .session .time) packet (take m (b .store)) (take n (b .out))) r store out
     → AnsweredOver (inputAt b packet) (b .store) (b .out) r (store ++ drop m (b .store)) (out ++ drop n (b .out))
-unfolding outAfter
 answered-over b packet {m = m} {n = n} {r = r} {store = store} {out = out} e f a =
     let i : Input = inputAt b packet in
     let h : Answered i r store out = rw (front-least (b .session .stored) m (b .store) e, front-least (b .session .room) n (b .out) f) at a in
     record {
       outcome-is = h .outcome-is;
       store-is = front-laid (b .session .stored) m (b .store) store (storeOn i) e (store-length i) (h .store-is);
-      out-is = front-laid (b .session .room) n (b .out) out (outAfter i) f (laid-length (i .out) 0 (octetsDue i)) (h .out-is);
+      out-is = front-laid (b .session .room) n (b .out) out (outAfter i) f (out-length i) (h .out-is);
     }
 
 -- The octets due stand at the front of a buffer whose front the terminal was lent.
-due-front : (i : Input) (out : List ℕ) → length (i .time) ≡ 6 → length (i .out) ≤ length out
+due-front : (i : Input) (out : List ℕ) → length (i .out) ≤ length out
     → take (length (octetsDue i)) (laid out 0 (outAfter i)) ≡ octetsDue i
-unfolding outAfter
-due-front i out six h =
+due-front i out h =
     let due : List ℕ = octetsDue i in
-    let front : List ℕ = laid (i .out) 0 due in
-    let kept : length front ≡ length (i .out) = laid-length (i .out) 0 due in
+    let front : List ℕ = outAfter i in
+    let kept : length front ≡ length (i .out) = out-length i in
     ap (λ (l : List ℕ). take (length due) l) (laid-rest out front (omega arith))
-    ∙ take-append-le (length due) front (drop (length front) out) (omega (arith, due-fits i six))
-    ∙ laid-front (i .out) due (due-fits i six)
+    ∙ take-append-le (length due) front (drop (length front) out) (omega (arith, due-fits i))
+    ∙ front-due i
 
 -- The line of the octets written, the verdict and the counts, said one behind another, are what is said of an answer.
 pub answer-said : (b : Bench) (packet : List ℕ) {r : Outcome} {store out written : List ℕ} {s : Session} {at frames verdict last : ℕ} {t₀ t₁ t₂ t₃ : List ℕ}
-    → length (b .session .time) ≡ 6 → AnsweredOver (inputAt b packet) (b .store) (b .out) r store out → written ≡ take (r .written) out
+    → AnsweredOver (inputAt b packet) (b .store) (b .out) r store out → written ≡ take (r .written) out
     → Says (lineOf written) at t₀ frames t₁ → Says (verdictText (r .verdict)) frames t₁ verdict t₂ → Says (countsText (r .written) (r .state .counts)) verdict t₂ last t₃
     → s ≡ withState (b .session) (r .state)
     → Serves (answering b packet) at t₀ (record { session = s; at = last }) store out t₃
-unfolding answerText benchAfter outcomeOf
-answer-said b packet {written = written} six a w p q z e =
+unfolding answerText benchAfter
+answer-said b packet {written = written} a w p q z e =
     let i : Input = inputAt b packet in
     let due : written ≡ octetsDue i =
     w
-    ∙ ap₂ (λ (n : ℕ) (o : List ℕ). take n o) (ap (λ (o : Outcome). o .written) (a .outcome-is)) (a .out-is)
-    ∙ due-front i (b .out) six (omega (arith, length-take (b .session .room) (b .out))) in
+    ∙ ap₂ (λ (n : ℕ) (o : List ℕ). take n o) (ap (λ (o : Outcome). o .written) (a .outcome-is) ∙ written-due i) (a .out-is)
+    ∙ due-front i (b .out) (omega (arith, length-take (b .session .room) (b .out))) in
     record {
-      says = says-append (rw due at p) (says-append (rw (a .outcome-is) at q) (rw (a .outcome-is) at z));
+      says = says-append (rw due at p) (says-append (rw (a .outcome-is, verdict-due i) at q) (rw (a .outcome-is, written-due i) at z));
       session-is = e ∙ ap (λ (o : Outcome). withState (b .session) (o .state)) (a .outcome-is);
       store-is = a .store-is;
       out-is = a .out-is;

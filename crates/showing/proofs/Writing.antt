@@ -10,9 +10,9 @@ use lib.Seq.{take-at}
 use Rattle.octets.specs.Numbers.{word16}
 use Rattle.writer.specs.declared.Written.{Written}
 use Rattle.writer.specs.Writer.{Writes, writtenOf, bufferAfter}
-use Rattle.printing.specs.Text.{space, lineOf, Says}
+use Rattle.saying.specs.Text.{space, lineOf, Says}
 use Rattle.printing.specs.Answer.{writtenText}
-use Rattle.printing.proofs.Saying.{says-append}
+use Rattle.saying.proofs.Saying.{says-append}
 use Rattle.showing.specs.Shows.{orderIn, dataIn, writerBuffer, writeText}
 
 -- The first of many equal octets are as many of them.

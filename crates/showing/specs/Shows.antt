@@ -17,7 +17,7 @@ use Rattle.terminal.specs.declared.Outcome.{Outcome}
 use Rattle.terminal.specs.Outcome.{Input, input, verdictOn, octetsDue, outcomeOf, storeOn, outAfter}
 use Rattle.commands.specs.declared.session.Session.{Session}
 use Rattle.commands.specs.Session.{withState, profileIn}
-use Rattle.printing.specs.Text.{space, lineOf, Says}
+use Rattle.saying.specs.Text.{space, lineOf, Says}
 use Rattle.printing.specs.Answer.{verdictText, countsText, fieldsText, writtenText}
 use Rattle.showing.specs.declared.Served.{Served}
 

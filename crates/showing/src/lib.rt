@@ -2,13 +2,12 @@
 use commands::session;
 use commands::session::Session;
 use printing::answer;
-use printing::text;
 use terminal::Outcome;
 use writer::Order;
 use writer::Written;
 ghost use mathlib.Core.Path.{_≡_};
 ghost use Prim.Native.Nat.{min};
-ghost use Rattle.printing.specs.Text.{SaysBy};
+ghost use Rattle.saying.specs.Text.{SaysBy};
 ghost use Rattle.writer.specs.Writer.{Writes};
 ghost use Rattle.showing.specs.Shows.{benchOf, inputAt, AnsweredAt, ServedBy, answering, readText, orderIn, dataIn, writeText, controlText, widerText};
 
@@ -36,7 +35,7 @@ pub fn answer(
     let written = outcome.written;
     let state = outcome.state;
     let v = outcome.verdict;
-    let frames = text::line(text, at, lines::front(out, written));
+    let frames = saying::line(text, at, lines::front(out, written));
     let verdict = answer::put_verdict(text, frames, v);
     let last = answer::put_counts(text, verdict, written, state.counts);
     let session = session::with_state(s, state);
@@ -76,7 +75,7 @@ pub fn read(packet: &[u8], text: &mut [u8], at: usize) -> usize
     let verdict = answer::put_verdict(text, at, v);
     let fields = answer::put_fields(text, verdict, reading.fields);
     let data = reading.data;
-    text::last(text, fields, octets::copy::placed(packet, data))
+    saying::last(text, fields, octets::copy::placed(packet, data))
 }
 
 // W: the writer writes a packet into a buffer of the length asked for, each octet EE before.
@@ -87,7 +86,7 @@ pub fn write(given: &[u8], text: &mut [u8], at: usize) -> usize
     let room = octets::numbers::word16_at(given, 6) as usize;
     let written = written_into(given, &mut packet[..room]);
     let code = answer::put_written(text, at, written);
-    text::last(text, code, &packet[..room])
+    saying::last(text, code, &packet[..room])
 }
 
 // The writer's answer to the order at the front of some octets, over a buffer.
@@ -119,7 +118,7 @@ pub fn control(given: &[u8], text: &mut [u8], at: usize) -> usize
     ensures { λ r. ⌜ SaysBy (controlText (now (given .entry))) at text r ⌝ }
 {
     let two = octets::numbers::octets_of16(crc::crc(given));
-    text::line(text, at, &two)
+    saying::line(text, at, &two)
 }
 
 // V: whether a profile is wider than the one that stands, over the store that stands.
@@ -127,5 +126,5 @@ pub fn wider(s: Session, given: &[u8], text: &mut [u8], at: usize) -> usize
     ensures { λ r. ⌜ SaysBy (widerText s (now (given .entry))) at text r ⌝ }
 {
     let is = wider::is_wider(session::profile_in(given), s.profile, s.stored);
-    text::line(text, at, &[if is { 1 } else { 0 }])
+    saying::line(text, at, &[if is { 1 } else { 0 }])
 }

@@ -1,4 +1,5 @@
 -- Document 01, "Refusal numbers in checking order": the reader's checks 42, 1, 2 and 16, and what it returns.
+use mathlib.Core.Path.{_≡_}
 use mathlib.Core.Bool.{Bool, cond, _&&_}
 use mathlib.Core.List.{List, [], _∷_}
 use Prim.Native.Nat.{ℕ, _+_, _-_, min}
@@ -82,3 +83,7 @@ readingOf p = record {
 -- The application data that the reader hands back, a part of the packet: an empty one where it was refused.
 abbrev pub dataRead : List ℕ → List ℕ
 dataRead p = placed (readingOf p .«data») p
+
+-- What a caller is promised: verdict, fields and the part that is the data, all by one equation.
+abbrev pub Reads : List ℕ → Reading → Type 0
+Reads p r = r ≡ readingOf p

@@ -16,7 +16,7 @@ ghost use lib.ListN.{length};
 ghost use Rattle.octets.specs.Numbers.{octet, word16};
 ghost use Rattle.octets.specs.Fields.{packetId, sequence, header};
 ghost use Rattle.tc.specs.Layout.{errorControl, covered, fieldsOf, dataSpan};
-ghost use Rattle.tc.specs.Reader.{lengthRight, firstFault, headerFault, judged, readingOf};
+ghost use Rattle.tc.specs.Reader.{lengthRight, firstFault, headerFault, judged, Reads};
 
 // The fewest octets that can be answered with a report.
 const LEAST: usize = 6;
@@ -26,7 +26,7 @@ const DETAIL_MOST: u16 = 65535;
 
 // Reads a packet.
 pub fn read(p: &[u8]) -> Reading
-    ensures { λ r. ⌜ r ≡ readingOf (now (p .entry)) ⌝ }
+    ensures { λ r. ⌜ Reads (now (p .entry)) r ⌝ }
 {
     let verdict = judge(p);
     if checks::accepted(verdict) {

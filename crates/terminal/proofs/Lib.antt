@@ -1,6 +1,8 @@
 pub mod Answering
 pub mod Due
+pub mod Promised
 pub mod Refusing
+pub mod Reporting
 pub mod Sizes
 pub mod Steps
 pub mod Storing

@@ -1,6 +1,6 @@
 -- What a refusal gives: nothing at all, or one (1,2).
 -- Assumes nothing.
-use mathlib.Core.Path.{_≡_, sym, ap, _∙_}
+use mathlib.Core.Path.{_≡_, refl, sym, ap, _∙_}
 use mathlib.Core.Bool.{true, false}
 use mathlib.Core.List.{[], _∷_, _++_}
 use Prim.Native.Nat.{ℕ}
@@ -11,13 +11,13 @@ use Rattle.laws.specs.Fold.{joined}
 use Rattle.octets.proofs.Laid.{laid-none}
 use Rattle.checks.specs.Verdict.{isAccepted, numberOf, detailOf, silent}
 use Rattle.checks.proofs.Numbers.{silent-refuses}
-use Rattle.tm.specs.Counts.{nextCount}
-use Rattle.tm.specs.Frame.{stamped, framesOf, countsAfter}
+use Rattle.counts.specs.Counts.{nextCount}
+use Rattle.tm.specs.Frame.{timeOf, stamped, framesOf, countsAfter}
 use Rattle.reports.specs.Source.{echoOf, failure}
-use Rattle.tm.proofs.Counting.{counted-report}
+use Rattle.counts.proofs.Counting.{counted-report}
 use Rattle.tm.proofs.Frames.{octetsIn, frames-size}
 use Rattle.terminal.specs.Act.{refusalSize}
-use Rattle.terminal.specs.Reports.{failed}
+use Rattle.laying.specs.Reports.{failed}
 use Rattle.terminal.specs.Outcome.{Input, verdictOn, reportsOn, framesDue, octetsDue, outcomeOf, outAfter}
 use Rattle.terminal.proofs.Answering.{silent-due, refused-due, heard-four}
 use Rattle.terminal.proofs.Due.{out-front}
@@ -56,7 +56,7 @@ module _ (i : Input) where
     one-report = sym (refused-due i r s)
 
     -- One frame is due, the (1,2).
-    pub one-frame : framesDue i ≡ stamped (i .profile .pid) (i .time) (i .state .counts) (failed (verdictOn i) (i .packet)) ∷ []
+    pub one-frame : framesDue i ≡ stamped (i .profile .pid) (timeOf (i .time)) (i .state .counts) (failed (verdictOn i) (i .packet)) ∷ []
     unfolding framesDue framesOf
     one-frame = rw one-report
 
@@ -65,19 +65,18 @@ module _ (i : Input) where
     unfolding outcomeOf countsAfter
     one-count = rw one-report (counted-report (i .state .counts))
 
-    module _ (six : length (i .time) ≡ 6) where
-      -- It has 24 octets.
-      pub frame-octets : length (octetsDue i) ≡ refusalSize
-      unfolding framesDue
-      frame-octets =
-          frames-size (i .profile .pid) (i .time) (i .state .counts) (reportsOn i) six
-          ∙ ap octetsIn one-report
-          ∙ omega (
-            arith,
-            length-append (echoOf (i .packet)) (failure (numberOf (verdictOn i)) (detailOf (verdictOn i))),
-            length-take-le 4 (i .packet) (heard-four i s),
-          )
+    -- It has 24 octets.
+    pub frame-octets : length (octetsDue i) ≡ refusalSize
+    unfolding framesDue
+    frame-octets =
+        frames-size (i .profile .pid) (timeOf (i .time)) (i .state .counts) (reportsOn i) refl
+        ∙ ap octetsIn one-report
+        ∙ omega (
+          arith,
+          length-append (echoOf (i .packet)) (failure (numberOf (verdictOn i)) (detailOf (verdictOn i))),
+          length-take-le 4 (i .packet) (heard-four i s),
+        )
 
-      -- It stands at the front of the output buffer, whose other octets stay.
-      pub frame-first : outAfter i ≡ octetsDue i ++ drop refusalSize (i .out)
-      frame-first = out-front i six ∙ ap (λ (n : ℕ). octetsDue i ++ drop n (i .out)) frame-octets
+    -- It stands at the front of the output buffer, whose other octets stay.
+    pub frame-first : outAfter i ≡ octetsDue i ++ drop refusalSize (i .out)
+    frame-first = out-front i ∙ ap (λ (n : ℕ). octetsDue i ++ drop n (i .out)) frame-octets

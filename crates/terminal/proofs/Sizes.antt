@@ -1,43 +1,53 @@
--- How many octets the parts of the reports have at most.
+-- How many octets the reports have at most.
 -- Assumes nothing.
-use mathlib.Core.Path.{_≡_, sym, ap, _∙_}
-use mathlib.Core.List.{List, _++_, append-assoc}
-use Prim.Native.Nat.{ℕ, _+_, _*_}
+use mathlib.Core.Bool.{Bool, true, false}
+use mathlib.Core.List.{List, [], _∷_, map}
+use Prim.Native.Nat.{ℕ, _*_, _≤_}
 use native.Mathlib.Omega.{arith}
-use lib.ListN.{length, length-append}
+use lib.ListN.{length, length-append, length-take}
+use Rattle.laws.specs.Each.{Each}
+use Rattle.checks.specs.declared.Verdict.{Verdict}
+use Rattle.checks.specs.Verdict.{numberOf, detailOf}
 use Rattle.map.specs.declared.Area.{Area}
-use Rattle.blocks.specs.Blocks.{firstPlace, memoryId, blockCount, blocksOf}
-use Rattle.blocks.proofs.Blocks.{blocks-length}
-use Rattle.tm.specs.declared.Stamp.{Stamp}
-use Rattle.tm.specs.declared.counts.Counts.{Counts}
-use Rattle.tm.specs.Counts.{countFor}
-use Rattle.tm.specs.Frame.{headOf, frameOf, stamped}
-use Rattle.reports.specs.Source.{checkHead}
-use Rattle.tm.proofs.Frame.{head-length}
+use Rattle.map.specs.Place.{dumpWords, storedAt}
+use Rattle.map.proofs.Octets.{stored-most, dump-most}
+use Rattle.blocks.specs.declared.Block.{Block}
+use Rattle.blocks.specs.Blocks.{memoryId, blockCount, blocksOf}
+use Rattle.blocks.specs.Form.{blocksMost}
+use Rattle.blocks.proofs.Blocks.{Bounds}
+use Rattle.tm.proofs.Frames.{octetsIn}
+use Rattle.reports.specs.Source.{echoOf, failure, dumpHead, checkHead}
 use Rattle.requests.specs.declared.Action.the-variants.{Check}
 use Rattle.requests.specs.Request.{carriedBy}
-use Rattle.terminal.specs.declared.act.Sender.{Sender}
 use Rattle.memory.specs.Memory.{entriesOf}
-use Rattle.terminal.specs.Reports.{checked}
-use Rattle.memory.proofs.Walking.{entries-length}
-use Rattle.terminal.specs.Act.{checkFirst}
+use Rattle.laying.specs.Reports.{echo, failed, dumped, checked, asked}
+use Rattle.laying.proofs.Checking.{entries-octets}
+use Rattle.terminal.specs.Act.{echoSize, refusalSize, dumpMost, serviceMost}
 
--- The check report's frame is its first eighteen octets and then its entries.
-pub check-frame : (sender : Sender) (c : Counts) (a : Area) (d store : List ℕ)
-    → stamped (sender .pid) (sender .time) c (checked a (memoryId d) store (blocksOf (carriedBy Check) d) (blockCount d))
-    ≡ checkFirst sender c d ++ entriesOf a store (blocksOf (carriedBy Check) d)
-unfolding stamped frameOf checkFirst
-check-frame sender c a d store =
-    let entries : List ℕ = entriesOf a store (blocksOf (carriedBy Check) d) in
-    let pair : List ℕ = checkHead (memoryId d) (blockCount d) in
-    let stamp : Stamp = record { pid = sender .pid; count = countFor c 6; time = sender .time; kind = 6; subtype = 10 } in
-    let size : length (pair ++ entries) ≡ blockCount d * 8 + 2 =
-    omega (arith, length-append pair entries, entries-length a store (blocksOf (carriedBy Check) d), blocks-length (carriedBy Check) d (blockCount d) firstPlace) in
-    ap (λ (n : ℕ). headOf stamp n ++ (pair ++ entries)) size ∙ sym (append-assoc (headOf stamp (blockCount d * 8 + 2)) pair entries)
+-- (1,1) and (1,7) are at most 20 octets, asked for or not.
+pub echo-most : (asks : Bool) (subtype : ℕ) (packet : List ℕ) → octetsIn (asked asks (echo subtype packet)) ≤ echoSize
+echo-most true subtype packet = omega (arith, length-take 4 packet)
+echo-most false subtype packet = omega arith
 
-pub check-first-length : (sender : Sender) (c : Counts) (d : List ℕ) → length (sender .time) ≡ 6 → length (checkFirst sender c d) ≡ 18
-unfolding checkFirst
-check-first-length sender c d six =
-    let stamp : Stamp = record { pid = sender .pid; count = countFor c 6; time = sender .time; kind = 6; subtype = 10 } in
-    length-append (headOf stamp (blockCount d * 8 + 2)) (checkHead (memoryId d) (blockCount d))
-    ∙ ap (λ (n : ℕ). n + 2) (head-length stamp (blockCount d * 8 + 2) six)
+-- (1,2) is at most 24 octets.
+pub failed-most : (v : Verdict) (packet : List ℕ) → octetsIn (failed v packet ∷ []) ≤ refusalSize
+failed-most v packet = omega (arith, length-append (echoOf packet) (failure (numberOf v) (detailOf v)), length-take 4 packet)
+
+-- The (6,6) of a block that is not too long is at most 504 octets.
+pub dumped-most : (a : Area) (memory : ℕ) (store : List ℕ) (b : Block) → b .words ≤ dumpWords → octetsIn (dumped a memory store b ∷ []) ≤ dumpMost
+dumped-most a memory store b h =
+    let here = dump-most a (b .words) h in
+    omega (arith, stored-most a store (b .start) (b .words), length-append (dumpHead memory (b .start) (b .words)) (storedAt a store (b .start) (b .words)))
+
+-- Those of some such blocks are at most 504 octets each.
+pub dumps-most : (a : Area) (memory : ℕ) (store : List ℕ) (octets : ℕ) (blocks : List Block) → Each (Bounds dumpWords octets) blocks
+    → octetsIn (map (dumped a memory store) blocks) ≤ dumpMost * length blocks
+dumps-most a memory store octets [] h = omega arith
+dumps-most a memory store octets (b ∷ rest) h =
+    let more = dumps-most a memory store octets rest (h .1) in
+    omega (arith, dumped-most a memory store b (h .0 .most))
+
+-- The (6,10) of at most eight blocks is no longer than a service's reports may be.
+pub checked-most : (a : Area) (d store : List ℕ) → blockCount d ≤ blocksMost → octetsIn (checked a d store ∷ []) ≤ serviceMost
+checked-most a d store few =
+    omega (arith, entries-octets a d store, length-append (checkHead (memoryId d) (blockCount d)) (entriesOf a store (blocksOf (carriedBy Check) d)))

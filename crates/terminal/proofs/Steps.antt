@@ -1,25 +1,21 @@
--- Steps of an answer: none, one report, and one step after another.
+-- Steps of an answer: none, reports laid, and one step after another.
 -- Assumes nothing.
 use mathlib.Core.Path.{_≡_, refl, sym, ap, ap₂, _∙_}
-use mathlib.Core.Bool.{Bool, true, false}
-use mathlib.Core.List.{List, [], _∷_, _++_}
-use Prim.Native.Nat.{ℕ, _+_, _≤_}
+use mathlib.Core.List.{List, [], _++_}
+use Prim.Native.Nat.{ℕ, _+_, _≤_, _<_}
 use native.Mathlib.Nat.{add-zero}
 use native.Mathlib.Omega.{arith}
 use lib.ListN.{length, length-append}
 use Rattle.laws.specs.Fold.{joined}
 use Rattle.octets.specs.Copy.{laid}
 use Rattle.octets.proofs.Laid.{laid-append, laid-none}
-use Rattle.tm.specs.declared.Stamp.{Stamp}
-use Rattle.tm.specs.declared.counts.Counts.{Counts}
-use Rattle.tm.specs.Counts.{counted}
-use Rattle.tm.specs.Frame.{frameHead, frameOf, Report, stamped, framesOf, countsAfter, LaysFrame}
-use Rattle.tm.proofs.Frame.{frame-length}
-use Rattle.tm.proofs.Frames.{counts-append, octets-append, one-frame}
-use Rattle.terminal.specs.declared.act.Sender.{Sender}
-use Rattle.terminal.specs.declared.act.Progress.{Progress}
-use Rattle.terminal.specs.Reports.{asked}
-use Rattle.terminal.specs.Act.{Stamped, Did, octetsFor}
+use Rattle.counts.specs.declared.Counts.{Counts}
+use Rattle.tm.specs.Frame.{Report, framesOf, countsAfter}
+use Rattle.tm.proofs.Frames.{octetsIn, frames-size, counts-append, octets-append}
+use Rattle.laying.specs.declared.Sender.{Sender}
+use Rattle.laying.specs.declared.Progress.{Progress}
+use Rattle.laying.specs.Lays.{octetsFor, Lays}
+use Rattle.terminal.specs.Act.{Did}
 
 module _ (sender : Sender) where
   -- Nothing done.
@@ -27,36 +23,13 @@ module _ (sender : Sender) where
   unfolding framesOf countsAfter joined
   did-none most p out = record { at-is = sym (add-zero (p .at)); counts-is = refl; out-is = sym (laid-none out (p .at)); bounded = omega arith }
 
-  -- One report laid.
-  pub did-one : (most : ℕ) (p q : Progress) (out out′ : List ℕ) (r : Report) (n : ℕ)
-      → n ≡ length (stamped (sender .pid) (sender .time) (p .counts) r) → q .at ≡ p .at + n → q .counts ≡ counted (p .counts) (r .kind)
-      → out′ ≡ laid out (p .at) (stamped (sender .pid) (sender .time) (p .counts) r) → n ≤ most
-      → Did most sender p q out out′ (r ∷ [])
-  unfolding countsAfter
-  did-one most p q out out′ r n size at counts there small =
-      let frame : octetsFor sender (p .counts) (r ∷ []) ≡ stamped (sender .pid) (sender .time) (p .counts) r =
-      one-frame (sender .pid) (sender .time) (p .counts) r in
-      record {
-        at-is = at ∙ ap (λ (m : ℕ). p .at + m) (size ∙ ap length (sym frame));
-        counts-is = counts;
-        out-is = there ∙ ap (λ (f : List ℕ). laid out (p .at) f) (sym frame);
-        bounded = omega arith;
-      }
-
-  -- A frame laid is its head and its source data long.
-  pub frame-octets : {c : Counts} {kind subtype at n : ℕ} {s : Stamp} {out out′ : List ℕ} (source : List ℕ)
-      → Stamped sender c kind subtype s → LaysFrame (frameOf s source) at out n out′ → n ≡ frameHead + length source
-  frame-octets {s = s} source stamp lays = lays .length-is ∙ frame-length s source (stamp .six)
-
-  -- One report laid, as a frame with a stamp for it.
-  pub did-frame : (most : ℕ) (p q : Progress) (out out′ : List ℕ) (r : Report) (s : Stamp) (source : List ℕ) {n : ℕ}
-      → Stamped sender (p .counts) (r .kind) (r .subtype) s → source ≡ r .source → LaysFrame (frameOf s source) (p .at) out n out′
-      → (q .at ≡ p .at + n) × (q .counts ≡ counted (p .counts) (r .kind)) → n ≤ most
-      → Did most sender p q out out′ (r ∷ [])
-  unfolding stamped
-  did-frame most p q out out′ r s source {n = n} stamp same lays after small =
-      let frame : frameOf s source ≡ stamped (sender .pid) (sender .time) (p .counts) r = ap₂ frameOf (stamp .is) same in
-      did-one most p q out out′ r n (lays .length-is ∙ ap length frame) (after .0) (after .1) (lays .out-is ∙ ap (λ (f : List ℕ). laid out (p .at) f) frame) small
+  -- Reports laid, of so few octets that the place behind them is in 16 bits.
+  pub did-laid : (most : ℕ) (p q : Progress) (out out′ : List ℕ) (rs : List Report)
+      → length (sender .time) ≡ 6 → octetsIn rs ≤ most → p .at + most < 65536 → Lays sender p q out out′ rs → Did most sender p q out out′ rs
+  did-laid most p q out out′ rs six few small lays =
+      let size : length (octetsFor sender (p .counts) rs) ≡ octetsIn rs = frames-size (sender .pid) (sender .time) (p .counts) rs six in
+      let at : q .at ≡ p .at + length (octetsFor sender (p .counts) rs) = omega (arith, lays .at-is) in
+      record { at-is = at; counts-is = lays .counts-is; out-is = lays .out-is; bounded = omega arith }
 
   -- One step after another.
   pub did-then : (a b : ℕ) (p q r : Progress) (o₁ o₂ o₃ : List ℕ) (xs ys : List Report)
@@ -77,14 +50,6 @@ module _ (sender : Sender) where
             ∙ ap (λ (h : List ℕ). laid o₁ (p .at) h) (sym both);
         bounded = omega (arith, first .bounded, second .bounded);
       }
-
-  -- A report that is not asked for, and one that is.
-  pub not-asked : (most : ℕ) (p : Progress) (out : List ℕ) (asks : Bool) (r : Report) → asks ≡ false → Did most sender p p out out (asked asks r)
-  not-asked most p out asks r e = rw e (did-none most p out)
-
-  pub is-asked : (most : ℕ) (p q : Progress) (out out′ : List ℕ) (asks : Bool) (r : Report) → asks ≡ true
-      → Did most sender p q out out′ (r ∷ []) → Did most sender p q out out′ (asked asks r)
-  is-asked most p q out out′ asks r e d = rw e d
 
   -- A larger bound holds too.
   pub did-weaken : (a b : ℕ) (p q : Progress) (out out′ : List ℕ) (rs : List Report) → a ≤ b → Did a sender p q out out′ rs → Did b sender p q out out′ rs

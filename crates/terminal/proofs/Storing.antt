@@ -34,18 +34,12 @@ use Rattle.decide.specs.declared.Task.the-variants.{Idle, Memory, Connection}
 use Rattle.requests.specs.Request.{carriedBy, mostWords, outsideOf}
 use Rattle.decide.specs.Table.{serviceRows, askedBy, taskFor, taskOf, Formed}
 use Rattle.decide.proofs.Decided.{accepted-facts, memory-facts}
-use Rattle.memory.specs.Memory.{loaded}
+use Rattle.memory.proofs.Loaded.{Beyond, loaded-length, loaded-elsewhere}
 use Rattle.terminal.specs.Done.{memoryDone, done}
 use Rattle.terminal.specs.Outcome.{Input, verdictOn, storeOn}
 use Rattle.terminal.proofs.Answering.{accepted-store, refused-store}
 
 -- ---- its length
-
-loaded-length : (a : Area) (d : List ℕ) (blocks : List Block) (store : List ℕ) → length (loaded a d blocks store) ≡ length store
-unfolding loaded
-loaded-length a d [] store = refl
-loaded-length a d (b ∷ rest) store =
-    loaded-length a d rest (laid store (octetAt a (b .start)) (wordsOf d b)) ∙ laid-length store (octetAt a (b .start)) (wordsOf d b)
 
 memory-length : (a : Area) (action : Action) (d store : List ℕ) → length (memoryDone a action d store .store) ≡ length store
 memory-length a Load d store = loaded-length a d (blocksOf (carriedBy Load) d) store
@@ -65,18 +59,6 @@ store-length i =
     (λ h. ap length (sym (refused-store i h)))
 
 -- ---- what lies in no area
-
--- An octet stands before the words of a block, or behind them.
-abbrev Beyond : Area → List ℕ → ℕ → Block → Type 0
-Beyond a d k b = (k < octetAt a (b .start)) ⊎ (octetAt a (b .start) + length (wordsOf d b) ≤ k)
-
-loaded-elsewhere : (a : Area) (d : List ℕ) (k : ℕ) (blocks : List Block) (store : List ℕ) → Each (Beyond a d k) blocks
-    → getD (loaded a d blocks store) k 0 ≡ getD store k 0
-unfolding loaded
-loaded-elsewhere a d k [] store h = refl
-loaded-elsewhere a d k (b ∷ rest) store h =
-    loaded-elsewhere a d k rest (laid store (octetAt a (b .start)) (wordsOf d b)) (h .1)
-    ∙ laid-elsewhere store (octetAt a (b .start)) (wordsOf d b) k (h .0)
 
 module _ (a : Area) (d : List ℕ) (k : ℕ) (off : Off a k) where
   -- The words of a block that is inside the area are written inside it.

@@ -6,14 +6,13 @@ use Prim.Native.Nat.{ℕ, _+_, _*_, _≤_, _<_}
 use native.Mathlib.Omega.{arith}
 use lib.ListN.{length}
 use Rattle.laws.specs.Each.{Each}
-use Rattle.octets.specs.Copy.{laid}
 use Rattle.blocks.specs.declared.Block.{Block}
 use Rattle.blocks.specs.Blocks.{firstPlace, blockAt, blocksFrom}
 use Rattle.blocks.proofs.Blocks.{Bounds}
 use Rattle.blocks.proofs.Walk.{left, left-all, left-step, left-none}
 use Rattle.tm.specs.Frame.{Report}
-use Rattle.terminal.specs.declared.act.Sender.{Sender}
-use Rattle.terminal.specs.declared.act.Progress.{Progress}
+use Rattle.laying.specs.declared.Sender.{Sender}
+use Rattle.laying.specs.declared.Progress.{Progress}
 use Rattle.terminal.specs.Act.{dumpMost, serviceMost, Did}
 use Rattle.terminal.proofs.Steps.{did-none, did-then, did-weaken}
 

@@ -2,7 +2,7 @@
 use mathlib.Core.List.{List, [], _∷_, map}
 use Prim.Native.Nat.{ℕ}
 use Rattle.map.specs.declared.Area.{Area}
-use Rattle.blocks.specs.Blocks.{memoryId, blockCount, blocksOf}
+use Rattle.blocks.specs.Blocks.{memoryId, blocksOf}
 use Rattle.tm.specs.Frame.{Report}
 use Rattle.requests.specs.declared.Action.{Action}
 use Rattle.requests.specs.declared.Action.the-variants.{Load, Dump, Check}
@@ -10,7 +10,7 @@ use Rattle.decide.specs.declared.Task.{Task}
 use Rattle.decide.specs.declared.Task.the-variants.{Idle, Memory, Connection}
 use Rattle.requests.specs.Request.{carriedBy}
 use Rattle.memory.specs.Memory.{loaded}
-use Rattle.terminal.specs.Reports.{dumped, checked, connected}
+use Rattle.laying.specs.Reports.{dumped, checked, connected}
 
 -- What was done: the service's reports, and the store afterwards.
 pub record Done : Type 0 where
@@ -25,7 +25,7 @@ reporting reports store = record { reports = reports; store = store }
 abbrev pub memoryDone : Area → Action → List ℕ → List ℕ → Done
 memoryDone a Load d store = record { reports = []; store = loaded a d (blocksOf (carriedBy Load) d) store }
 memoryDone a Dump d store = reporting (map (dumped a (memoryId d) store) (blocksOf (carriedBy Dump) d)) store
-memoryDone a Check d store = reporting (checked a (memoryId d) store (blocksOf (carriedBy Check) d) (blockCount d) ∷ []) store
+memoryDone a Check d store = reporting (checked a d store ∷ []) store
 
 -- What a task does, with the packet's application data.
 abbrev pub done : Task → List ℕ → List ℕ → Done

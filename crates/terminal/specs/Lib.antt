@@ -1,4 +1,3 @@
-pub mod Reports
 pub mod Done
 pub mod Outcome
 pub mod Run

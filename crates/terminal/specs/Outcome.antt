@@ -2,7 +2,7 @@
 use mathlib.Core.Path.{_≡_}
 use mathlib.Core.Bool.{cond}
 use mathlib.Core.List.{List, [], _∷_, _++_}
-use Prim.Native.Nat.{ℕ}
+use Prim.Native.Nat.{ℕ, _≤_}
 use lib.ListN.{length}
 use Rattle.laws.specs.Fold.{joined}
 use Rattle.octets.specs.Copy.{laid}
@@ -10,11 +10,11 @@ use Rattle.checks.specs.declared.Verdict.{Verdict}
 use Rattle.checks.specs.Verdict.{isAccepted, silent}
 use Rattle.tc.specs.Layout.{fieldsOf, applicationOf}
 use Rattle.map.specs.declared.Profile.{Profile}
-use Rattle.tm.specs.Frame.{Report, framesOf, countsAfter}
+use Rattle.tm.specs.Frame.{Report, timeOf, framesOf, countsAfter}
 use Rattle.decide.specs.declared.State.{State}
 use Rattle.decide.specs.Table.{decided, taskOf}
 use Rattle.terminal.specs.declared.Outcome.{Outcome}
-use Rattle.terminal.specs.Reports.{echo, failed, asked, asksAcceptance, asksCompletion}
+use Rattle.laying.specs.Reports.{echo, failed, asked, asksAcceptance, asksCompletion}
 use Rattle.terminal.specs.Done.{Done, done}
 
 -- What an accepted packet has done.
@@ -56,9 +56,9 @@ verdictOn i = decided (i .profile) (i .state) (length (i .store)) (length (i .ou
 abbrev pub reportsOn : Input → List Report
 reportsOn i = reportsDue (i .profile) (i .packet) (i .store) (verdictOn i)
 
--- The frames due.
+-- The frames due; time is six octets.
 unfoldable pub framesDue : Input → List (List ℕ)
-framesDue i = framesOf (i .profile .pid) (i .time) (i .state .counts) (reportsOn i)
+framesDue i = framesOf (i .profile .pid) (timeOf (i .time)) (i .state .counts) (reportsOn i)
 
 -- Their octets, one frame behind another.
 abbrev pub octetsDue : Input → List ℕ
@@ -80,8 +80,13 @@ storeOn i = storeAfter (i .profile) (i .packet) (verdictOn i) (i .store)
 abbrev pub input : Profile → State → List ℕ → List ℕ → List ℕ → List ℕ → Input
 input profile state time packet store out = record { profile = profile; state = state; time = time; packet = packet; store = store; out = out }
 
--- What a caller is promised: every part of the outcome, by an equation.
+-- The most octets of an answer.
+abbrev pub answerMost : ℕ
+answerMost = 4072
+
+-- What a caller is promised: every part of the outcome, by an equation, and that it never exceeds 4,072 octets.
 pub record Answered (i : Input) (outcome : Outcome) (store out : List ℕ) : Type 0 where
   pub outcome-is : outcome ≡ outcomeOf i
+  pub most : outcome .written ≤ answerMost
   pub store-is : store ≡ storeOn i
   pub out-is : out ≡ outAfter i

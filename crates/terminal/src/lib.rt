@@ -1,8 +1,8 @@
 // The terminal of document 01: one telecommand packet in; verdict, frames, counts and store out.
-use act::Progress;
-use act::Sender;
 use checks::Verdict;
 use decide::State;
+use laying::Progress;
+use laying::Sender;
 use map::Profile;
 ghost use mathlib.Core.Path.{_≡_};
 ghost use Rattle.terminal.specs.Outcome.{input, Answered};
@@ -47,7 +47,7 @@ pub fn answer(
         let end = act::carry_out(sender, work, start, packet, store, out);
         return outcome_of(verdict, end);
     }
-    let end = act::report_refusal(verdict, sender, start, packet, out);
+    let end = laying::report_refusal(verdict, sender, start, packet, out);
     outcome_of(verdict, end)
 }
 

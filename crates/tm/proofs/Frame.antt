@@ -9,8 +9,14 @@ use lib.Seq.{getD-drop}
 use Rattle.octets.specs.Copy.{laid}
 use Rattle.octets.specs.Numbers.{word16}
 use Rattle.octets.proofs.Laid.{laid-append}
+use Rattle.octets.proofs.Words.{run, run-all}
 use Rattle.tm.specs.declared.Stamp.{Stamp}
-use Rattle.tm.specs.Frame.{frameHead, uncounted, headOf, frameOf, frameSize}
+use Rattle.tm.specs.Frame.{frameHead, uncounted, timeOf, headOf, frameOf, frameSize}
+
+-- Six octets are a time as they stand.
+pub time-six : (time : List ℕ) → length time ≡ 6 → timeOf time ≡ time
+unfolding run
+time-six time six = run-all time 6 six
 
 pub head-length : (s : Stamp) (n : ℕ) → length (s .time) ≡ 6 → length (headOf s n) ≡ frameHead
 unfolding headOf

@@ -1,17 +1,20 @@
 -- Laws of frames in turn: reports in two runs, how many octets their frames are, and frames that are cut by their length fields.
 -- Assumes nothing.
 use mathlib.Core.Path.{_≡_, refl, sym, ap, ap₂, _∙_}
+use mathlib.Core.Bool.{true}
 use mathlib.Core.List.{List, [], _∷_, _++_, append-nil}
 use Prim.Native.Nat.{ℕ, zero, suc, _+_, _-_, min, _≤_, _<_}
 use native.Mathlib.Nat.{zero-add}
 use native.Mathlib.Omega.{arith}
 use lib.ListN.{length, take, drop, length-append, length-drop, drop-of-length-le}
 use lib.Seq.{take-all, drop-drop, drop-length, take-append-seam, drop-append-seam}
+use Rattle.laws.specs.Each.{Each}
 use Rattle.laws.specs.Fold.{joined}
 use Rattle.laws.proofs.Fold.{joined-append}
 use Rattle.laws.proofs.Order.{by-order}
-use Rattle.tm.specs.declared.counts.Counts.{Counts}
-use Rattle.tm.specs.Counts.{countFor, counted}
+use Rattle.counts.specs.declared.Counts.{Counts}
+use Rattle.counts.specs.Counts.{countFor, counted, inRange}
+use Rattle.counts.proofs.Counting.{counted-in-range}
 use Rattle.tm.specs.Frame.{Report, frameHead, stamped, framesOf, countsAfter, frameSize, cutFrames, cut}
 use Rattle.tm.proofs.Frame.{frame-length, frame-size}
 
@@ -141,3 +144,20 @@ module _ (pid : ℕ) (time : List ℕ) where
       ∙ ap (λ (n : ℕ). take n (f ++ g) ∷ cut (drop n (f ++ g))) size
       ∙ ap₂ (λ (a b : List ℕ). a ∷ cut b) (take-append-seam f g) (drop-append-seam f g)
       ∙ ap (λ (b : List (List ℕ)). f ∷ b) (cut-frames (counted c (r .kind)) rs six (omega arith))
+
+  -- Each of them is as long as its own length field says.
+  pub frames-sized : (c : Counts) (rs : List Report) → length time ≡ 6 → length (joined (framesOf pid time c rs)) ≤ 4072
+      → Each (λ (frame : List ℕ). length frame ≡ frameSize frame) (framesOf pid time c rs)
+  unfolding framesOf joined
+  frames-sized c [] six small = tt
+  frames-sized c (r ∷ rs) six small =
+      let f : List ℕ = stamped pid time c r in
+      let g : List ℕ = joined (framesOf pid time (counted c (r .kind)) rs) in
+      let both : length (f ++ g) ≡ length f + length g = length-append f g in
+      (sym (ap frameSize (sym (append-nil f)) ∙ stamped-size c r [] six (omega arith)), frames-sized (counted c (r .kind)) rs six (omega arith))
+
+-- Reports in turn keep the counts in range.
+pub after-in-range : (c : Counts) (rs : List Report) → inRange c ≡ true → inRange (countsAfter c rs) ≡ true
+unfolding countsAfter
+after-in-range c [] h = h
+after-in-range c (r ∷ rest) h = after-in-range (counted c (r .kind)) rest (counted-in-range c (r .kind) h)

@@ -3,12 +3,12 @@ use mathlib.Core.Path.{_≡_}
 use mathlib.Core.List.{List, [], _∷_, _++_}
 use Prim.Native.Nat.{ℕ, zero, suc, _+_, _-_, _%_}
 use lib.ListN.{length, take, drop}
-use Rattle.octets.specs.Numbers.{word16, octets16}
+use Rattle.octets.specs.Numbers.{octet, word16, octets16}
 use Rattle.octets.specs.Fields.{idOf, controlOf, apidOf}
 use Rattle.octets.specs.Copy.{laid}
 use Rattle.tm.specs.declared.Stamp.{Stamp}
-use Rattle.tm.specs.declared.counts.Counts.{Counts}
-use Rattle.tm.specs.Counts.{categoryOf, countFor, counted}
+use Rattle.counts.specs.declared.Counts.{Counts}
+use Rattle.counts.specs.Counts.{categoryOf, countFor, counted}
 
 -- The octets before a frame's source data, and what the length field leaves out of a frame's octets.
 abbrev pub frameHead : ℕ
@@ -16,6 +16,10 @@ frameHead = 16
 
 abbrev pub uncounted : ℕ
 uncounted = 7
+
+-- A time is six octets; one that is missing counts as 0.
+abbrev pub timeOf : List ℕ → List ℕ
+timeOf time = octet time 0 ∷ octet time 1 ∷ octet time 2 ∷ octet time 3 ∷ octet time 4 ∷ octet time 5 ∷ []
 
 -- The sixteen octets before the source data of a frame with so many octets of it; the length field is the total of octets minus 7, of which it has room for 16 bits.
 unfoldable pub headOf : Stamp → ℕ → List ℕ

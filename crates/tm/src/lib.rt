@@ -1,12 +1,10 @@
-// Telemetry packets of document 01: the layout of a frame, the counts, and where a frame ends.
+// Telemetry packets of document 01: the layout of a frame, and where it ends.
 use octets::fields::PacketId;
 use octets::fields::Sequence;
 ghost use mathlib.Core.Path.{_≡_};
 ghost use Prim.Native.Nat.{_+_, min};
 ghost use lib.ListN.{length, drop};
 ghost use Rattle.tm.specs.Frame.{headOf, frameOf, frameSize, LaysFrame};
-
-pub mod counts; // counts.rt: the counts of the reports, one for each category
 
 // The octets before a frame's source data.
 pub const HEAD: usize = 16;

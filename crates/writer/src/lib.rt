@@ -11,13 +11,20 @@ ghost use Prim.Native.Nat.{_+_, _≤_};
 ghost use lib.ListN.{length, take};
 ghost use Rattle.octets.specs.Copy.{laid};
 ghost use Rattle.tc.specs.Layout.{around, dataMost, headSize, headOf, bodyOf, packetOf};
-ghost use Rattle.writer.specs.Writer.{writtenOf, Writes, fieldsFor, isPacket};
+ghost use Rattle.writer.specs.Writer.{writtenNumber, writtenLength, writtenOf, Writes, fieldsFor, isPacket};
 
 // The most octets of application data.
 const DATA_MOST: usize = 236;
 
 // The largest count.
 const COUNT_MOST: u16 = 16383;
+
+// The numbers of the writer's refusals.
+const BAD_FIELD: u16 = 50;
+
+const BAD_DATA: u16 = 51;
+
+const NO_ROOM: u16 = 52;
 
 // What the writer is asked to put into a packet besides its application data.
 pub struct Order {
@@ -49,6 +56,30 @@ pub fn write(order: Order, application: &[u8], buffer: &mut [u8]) -> Written
         lay(order, application, buffer);
     }
     answer
+}
+
+// The number of an answer as document 01 has it: 50, 51 or 52; 0 stands for a packet written.
+pub fn written_number(answer: Written) -> u16
+    ensures { λ r. ⌜ r ≡ writtenNumber answer ⌝ }
+{
+    match answer {
+        Written::Packet(_) => 0,
+        Written::BadField => BAD_FIELD,
+        Written::BadData => BAD_DATA,
+        Written::NoRoom => NO_ROOM,
+    }
+}
+
+// The octets written: the packet's length, and 0 where the write was refused.
+pub fn written_length(answer: Written) -> usize
+    ensures { λ r. ⌜ r ≡ writtenLength answer ⌝ }
+{
+    match answer {
+        Written::Packet(length) => length,
+        Written::BadField => 0,
+        Written::BadData => 0,
+        Written::NoRoom => 0,
+    }
 }
 
 // Whether an answer is a packet written.

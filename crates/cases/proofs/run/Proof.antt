@@ -18,6 +18,9 @@ profile-requires c κs = search needs
 start-requires : tie.Need-start-requires Inv-loop μ-loop
 start-requires c κs = search needs
 
+from-front-requires : tie.Need-from-front-requires Inv-loop μ-loop
+from-front-requires c κs = search needs
+
 loop-holds : tie.Need-loop-holds Inv-loop μ-loop
 loop-holds c = search needs
 
@@ -59,6 +62,7 @@ run-spec =
     μ-loop
     profile-requires
     start-requires
+    from-front-requires
     loop-holds
     turn-requires
     sub-turns

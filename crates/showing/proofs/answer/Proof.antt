@@ -12,10 +12,6 @@ use Rattle.showing.proofs.answer.Tie as tie
 abbrev answered-before : tie.After-with-state → tie.After-answered
 answered-before c = c .before .before .before .before .before .before .before .before .before .before .before .before .before .before .before .before .before .before .before .before
 
--- the session's time has six octets
-six : (s : tie.Start) → length (s .args .s .time) ≡ 6
-six s = search needs
-
 answered-requires : tie.Need-answered-requires
 answered-requires c κs = search needs
 
@@ -52,7 +48,7 @@ returns c =
     let a = answered-before c in
     let s = a .before .before .before .before .before .before .before in
     answer-said (record { session = s .args .s; store = now (s .args .store); out = now (s .args .out) }) (now (s .args .packet))
-    (six s) (a .answered .ensures) (f .front .ensures) (l .line .ensures) (v .put-verdict .ensures) (k .put-counts .ensures) (c .with-state .ensures)
+    (a .answered .ensures) (f .front .ensures) (l .line .ensures) (v .put-verdict .ensures) (k .put-counts .ensures) (c .with-state .ensures)
 
 pub answer-spec : {M : Type 1} → statement M
 answer-spec =

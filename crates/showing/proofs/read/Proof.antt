@@ -1,7 +1,7 @@
 -- `showing::read` meets its contract.
 -- Assumes nothing.
 use Rattle.showing.specs.Shows.{readText}
-use Rattle.printing.proofs.Saying.{says-append}
+use Rattle.saying.proofs.Saying.{says-append}
 use borrow.Author.Needs.{needs}
 use Rattle.showing.proofs.read.Statement.{statement}
 use Rattle.showing.proofs.read.Tie as tie

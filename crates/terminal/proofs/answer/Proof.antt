@@ -3,6 +3,7 @@
 use mathlib.Core.List.{[], _∷_}
 use mathlib.Core.Bool.{true, false}
 use mathlib.Core.Path.{_≡_, refl, sym, ap, subst, _∙_}
+use native.Mathlib.Omega.{arith}
 use lib.ListN.{length}
 use denote.Ref.{now}
 use borrow.Author.Needs.{needs}
@@ -15,17 +16,23 @@ use Rattle.decide.specs.declared.Decision.{Decision}
 use Rattle.decide.specs.Decision.{acceptedWith}
 use Rattle.decide.specs.Table.{taskOf, FormedFor}
 use Rattle.decide.proofs.Checked.{decision-decided, decision-accepted}
-use Rattle.terminal.specs.Reports.{failed}
+use Rattle.laying.specs.Reports.{failed}
 use Rattle.terminal.specs.Outcome.{Input, input, verdictOn}
 use Rattle.terminal.specs.Act.{CarriesOut}
 use Rattle.terminal.proofs.Steps.{did-none}
-use Rattle.terminal.proofs.Answering.{answered, accepted-due, accepted-store, refused-store, silent-due, refused-due, heard-four, accepted-formed}
+use Rattle.terminal.proofs.Reporting.{did-refusal}
+use Rattle.terminal.proofs.Answering.{accepted-due, accepted-store, refused-store, silent-due, refused-due, heard-four, accepted-formed}
+use Rattle.terminal.proofs.Promised.{answered}
 use Rattle.terminal.proofs.answer.Statement.{statement}
 use Rattle.terminal.proofs.answer.Tie as tie
 
 -- everything that the answer may depend on
 abbrev inputOf : tie.Start → Input
 inputOf s = input (s .args .profile) (s .args .state) (s .args .time) (now (s .args .packet)) (now (s .args .store)) (now (s .args .out))
+
+-- the time has six octets
+time-length : (s : tie.Start) → length (s .args .time) ≡ 6
+time-length s = search needs
 
 decides : (c : tie.After-decide) → c .decide .result .verdict ≡ verdictOn (inputOf (c .before .before .before .before))
 decides c =
@@ -61,7 +68,7 @@ returns c =
     let i = inputOf (d .before .before .before .before) in
     let quiet : silent (verdictOn i) ≡ true = ap silent (sym (decides d)) ∙ sym (c .before .is-silent .ensures) ∙ c .if1 .taken in
     let refused = silent-refuses (verdictOn i) quiet in
-    answered i 0 _ _ _ _ [] _ (decides d) (silent-due i refused quiet) (refused-store i refused) (did-none _ _ _ _) refl
+    answered i 0 _ _ _ _ [] _ (time-length (d .before .before .before .before)) (decides d) (silent-due i refused quiet) (refused-store i refused) (did-none _ _ _ _) refl
 
 accepted-requires : tie.Need-accepted-requires
 accepted-requires c κs = search needs
@@ -94,12 +101,10 @@ returns-2 c =
     let carried =
     subst (λ (x : Decision). CarriesOut (record { pid = i .profile .pid; time = i .time }) (x .work) (record { at = 0; counts = i .state .counts }) (k .carry-out .result) (i .packet) (i .out) (k .carry-out .last .1 .1 .1 .1 .1 .0) (i .store) (k .carry-out .last .1 .1 .1 .1 .0))
     (works t) (k .carry-out .ensures) in
-    answered i _ _ _ _ _ _ _ (decides d) (accepted-due i (accepts t)) (carried .store-is ∙ accepted-store i (accepts t)) (carried .did) (c .outcome-of .ensures)
+    answered i _ _ _ _ _ _ _ (time-length s) (decides d) (accepted-due i (accepts t)) (carried .store-is ∙ accepted-store i (accepts t)) (carried .did) (c .outcome-of .ensures)
 
 report-refusal-requires : tie.Need-report-refusal-requires
-report-refusal-requires c κs =
-    let e = c .before .before .before .before in
-    (search needs, heard-four (inputOf (e .before .before .before .before .before .before)) (heard e))
+report-refusal-requires c κs = search needs
 
 outcome-of-requires-2 : tie.Need-outcome-of-requires-2
 outcome-of-requires-2 c κs = search needs
@@ -113,10 +118,11 @@ returns-3 c =
     let n = f .before .before in
     let e = n .before .before .before in
     let d = e .before .before in
-    let i = inputOf (d .before .before .before .before) in
-    answered i _ _ _ _ _ _ _ (decides d)
+    let s = d .before .before .before .before in
+    let i = inputOf s in
+    answered i _ _ _ _ _ _ _ (time-length s) (decides d)
     (ap (λ (v : Verdict). failed v (i .packet) ∷ []) (decides d) ∙ refused-due i (refuses n) (heard e))
-    (refused-store i (refuses n)) (f .report-refusal .ensures) (c .outcome-of2 .ensures)
+    (refused-store i (refuses n)) (did-refusal _ (time-length s) _ _ _ _ (d .decide .result .verdict) (i .packet) (heard-four i (heard e)) (omega arith) (f .report-refusal .ensures)) (c .outcome-of2 .ensures)
 
 pub answer-spec : {M : Type 1} → statement M
 answer-spec =

@@ -9,7 +9,7 @@ use borrow.Author.Needs.{needs}
 use Rattle.octets.specs.Numbers.{octets16}
 use Rattle.octets.specs.Fields.{idOf, controlOf, apidOf}
 use Rattle.octets.proofs.Words.{run, run-all}
-use Rattle.tm.specs.Counts.{categoryOf}
+use Rattle.counts.specs.Counts.{categoryOf}
 use Rattle.tm.specs.Frame.{frameHead, uncounted, headOf}
 use Rattle.tm.proofs.head.Statement.{statement}
 use Rattle.tm.proofs.head.Tie as tie

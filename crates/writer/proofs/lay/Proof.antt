@@ -7,7 +7,7 @@ use native.Mathlib.Omega.{arith}
 use lib.ListN.{length, length-take}
 use denote.Ref.{now}
 use borrow.Author.Needs.{needs}
-use Rattle.writer.proofs.Ordered.{laid-packet}
+use Rattle.tc.proofs.Laying.{laid-packet}
 use Rattle.writer.specs.Writer.{fieldsFor}
 use Rattle.octets.specs.Copy.{laid}
 use Rattle.writer.proofs.lay.Statement.{statement}

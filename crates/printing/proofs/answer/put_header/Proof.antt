@@ -1,7 +1,7 @@
 -- `printing::answer::put_header` meets its contract.
 -- Assumes nothing.
 use Rattle.printing.specs.Answer.{headerText}
-use Rattle.printing.proofs.Saying.{says-append}
+use Rattle.saying.proofs.Saying.{says-append}
 use borrow.Author.Needs.{needs}
 use Rattle.printing.proofs.answer.put_header.Statement.{statement}
 use Rattle.printing.proofs.answer.put_header.Tie as tie

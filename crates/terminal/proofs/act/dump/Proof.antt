@@ -1,5 +1,6 @@
 -- `terminal::act::dump` meets its contract. The loop's invariant: the reports laid are those of the blocks that were passed.
 -- Assumes nothing.
+use mathlib.Core.List.{List}
 use mathlib.Core.Path.{_≡_, refl, ap, _∙_}
 use Prim.Native.Nat.{ℕ, _-_, _≤_, _<_}
 use native.Mathlib.Omega.{arith}
@@ -7,13 +8,14 @@ use lib.ListN.{length}
 use denote.Ref.{now}
 use borrow.Author.Needs.{needs}
 use Rattle.map.specs.Place.{dumpWords}
-use Rattle.blocks.specs.declared.Block.{Block}
 use Rattle.blocks.specs.Blocks.{memoryId, blockCount, blockAt}
 use Rattle.blocks.specs.Form.{blocksMost}
 use Rattle.blocks.proofs.WellFormed.{head-facts, right-bounds}
 use Rattle.requests.specs.declared.Action.the-variants.{Dump}
 use Rattle.requests.specs.Request.{carriedBy, mostWords}
-use Rattle.terminal.specs.Reports.{dumped}
+use Rattle.laying.specs.Reports.{dumped}
+use Rattle.terminal.specs.Act.{serviceMost}
+use Rattle.terminal.proofs.Reporting.{did-block}
 use Rattle.terminal.proofs.Walks.{Dumping, dumping-first, dumping-small, dumping-next, dumping-last}
 use Rattle.terminal.proofs.act.dump.Statement.{statement}
 use Rattle.terminal.proofs.act.dump.Tie as tie
@@ -60,14 +62,7 @@ read c =
     (c .before .before .before .before .before .carried-by .ensures)
 
 report-block-requires : tie.Need-report-block-requires Inv-loop μ-loop
-report-block-requires c κs =
-    let k = c .before in
-    let l = k .before .before in
-    let s = l .before .before .before .before .before .before .before in
-    let small = dumping-small _ _ _ _ _ _ _ _ _ _ (l .loop .i) (l .loop .place) (l .loop .inv .2) (more (k .before)) in (
-      omega (arith, few s, more (k .before), l .loop .inv .2 .did .bounded, s .pre .0),
-      omega (arith, small .most, ap (λ (b : Block). b .words) (read k)),
-    )
+report-block-requires c κs = search needs
 
 add-i : tie.Need-add-i Inv-loop μ-loop
 add-i c = search needs
@@ -75,14 +70,22 @@ add-i c = search needs
 loop-less : tie.Need-loop-less Inv-loop μ-loop
 loop-less c = search needs
 
+time-length : (s : tie.Start Inv-loop μ-loop) → length (s .args .sender .time) ≡ 6
+time-length s = search needs
+
 loop-again : tie.Need-loop-again Inv-loop μ-loop
 loop-again c =
     let k = c .before .before .before .before in
     let l = k .before .before in
-    let m = l .before .before .memory-id in (
+    let s = l .before .before .before .before .before .before .before in
+    let m = l .before .before .memory-id in
+    let small = dumping-small _ _ _ _ _ _ _ _ _ _ (l .loop .i) (l .loop .place) (l .loop .inv .2) (more (k .before)) in
+    let early : l .loop .q .at ≤ serviceMost = omega (arith, few s, more (k .before), l .loop .inv .2 .did .bounded, s .pre .0) in
+    let d : List ℕ = now (s .args .application) in
+    let did = did-block (s .args .sender) (time-length s) _ _ _ _ (s .args .area) (memoryId d) (now (s .args .store)) (blockAt (carriedBy Dump) d (l .loop .place)) (small .most) early (rw (m .ensures, read k) at (c .before .before .report-block .ensures)) in (
       search needs,
       search needs,
-      rw (read k) (dumping-next _ _ _ _ _ _ _ _ _ _ (l .loop .i) (l .loop .place) (l .loop .inv .2) _ _ (more (k .before)) (rw (m .ensures, read k) at (c .before .before .report-block .ensures))),
+      rw (read k) (dumping-next _ _ _ _ _ _ _ _ _ _ (l .loop .i) (l .loop .place) (l .loop .inv .2) _ _ (more (k .before)) did),
     )
 
 same-length : tie.Need-same-length Inv-loop μ-loop

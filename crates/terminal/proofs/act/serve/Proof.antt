@@ -3,14 +3,16 @@
 use mathlib.Core.List.{List}
 use mathlib.Core.Path.{_≡_, refl, subst}
 use Prim.Native.Nat.{ℕ}
+use lib.ListN.{length}
 use denote.Ref.{now}
 use borrow.Author.Needs.{needs}
 use Rattle.decide.specs.declared.Task.{Task}
 use Rattle.decide.specs.Table.{FormedFor}
-use Rattle.terminal.specs.declared.act.Progress.{Progress}
+use Rattle.laying.specs.declared.Progress.{Progress}
 use Rattle.terminal.specs.Done.{done}
 use Rattle.terminal.specs.Act.{Serves}
 use Rattle.terminal.proofs.Steps.{did-none}
+use Rattle.terminal.proofs.Reporting.{did-connection}
 use Rattle.terminal.proofs.act.serve.Statement.{statement}
 use Rattle.terminal.proofs.act.serve.Tie as tie
 
@@ -54,6 +56,9 @@ returns-2 c =
     let k = m .before .before .before .before in
     meets (k .before .before .before .before .before) (k .task .given .1) (m .serve-memory .ensures)
 
+time-length : (s : tie.Start) → length (s .args .sender .time) ≡ 6
+time-length s = search needs
+
 same-length-3 : tie.Need-same-length-3
 same-length-3 c = search needs
 
@@ -61,7 +66,8 @@ returns-3 : tie.Need-returns-3
 returns-3 c =
     let m = c .before .before in
     let k = m .before .before in
-    meets (k .before .before .before .before .before) (k .enum-told2 .given .1) (record { did = m .report-connection .ensures; store-is = refl })
+    let s = k .before .before .before .before .before in
+    meets s (k .enum-told2 .given .1) (record { did = did-connection _ (time-length s) _ _ _ _ (s .pre .0) (m .report-connection .ensures); store-is = refl })
 
 pub serve-spec : {M : Type 1} → statement M
 serve-spec =

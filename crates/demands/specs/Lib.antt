@@ -1,0 +1,10 @@
+pub mod Terminal
+pub mod Packets
+pub mod Refusing
+pub mod Loading
+pub mod Serving
+pub mod Widening
+pub mod StandIns
+pub mod Cases
+pub mod Listing
+pub mod Parting

@@ -1,0 +1,93 @@
+-- `hexfeed::answer_piece` meets its contract.
+-- Assumes nothing.
+use Rattle.lines.specs.Cuts.{endsLine}
+use Rattle.lines.proofs.Whole.{piece-on, piece-line, piece-long}
+use Rattle.hexline.specs.Line.{Station}
+use Rattle.hexline.specs.Whole.{lineProgram}
+use Rattle.hexline.specs.Said.{stationOf}
+use Rattle.saying.proofs.Saying.{says-none}
+use Rattle.hexline.proofs.Said.{said-alone, said-as}
+use denote.Ref.{now}
+use borrow.Author.Tests.{not-true, not-false}
+use mathlib.Core.Bool.{true}
+use mathlib.Core.List.{[]}
+use mathlib.Core.Path.{_≡_, sym, _∙_}
+use borrow.Author.Needs.{needs}
+use Rattle.hexfeed.proofs.answer_piece.Statement.{statement}
+use Rattle.hexfeed.proofs.answer_piece.Tie as tie
+
+-- the piece is the last of its line
+ended : (e : tie.Else1) → endsLine (e .before .before .before .before .before .before .args .end) ≡ true
+ended e = sym (e .before .ends .ensures) ∙ not-false _ (e .if1 .left)
+
+ends-requires : tie.Need-ends-requires
+ends-requires c κs = search needs
+
+kept-requires : tie.Need-kept-requires
+kept-requires c κs = search needs
+
+same-length : tie.Need-same-length
+same-length c = search needs
+
+returns : tie.Need-returns
+returns c =
+    let t = c .before .before in
+    let a = t .before .before .before .before .before .before .args in
+    let m : Station = stationOf (a .state) (a .store) (a .out) in
+    said-as
+    (piece-on (lineProgram (a .profile)) m (now (a .piece)) (a .begins) (a .end) (sym (t .before .ends .ensures) ∙ not-true _ (t .if1 .taken)))
+    (said-alone m (a .at) (c .kept .result) (now (a .text)) (now (a .text)) [] (says-none (c .kept .ensures)))
+
+answer-requires : tie.Need-answer-requires
+answer-requires c κs = search needs
+
+same-length-2 : tie.Need-same-length-2
+same-length-2 c = search needs
+
+same-length-3 : tie.Need-same-length-3
+same-length-3 c = search needs
+
+same-length-4 : tie.Need-same-length-4
+same-length-4 c = search needs
+
+returns-2 : tie.Need-returns-2
+returns-2 c =
+    let k = c .before .before .before .before .before .before in
+    let t = k .before .before .before .before in
+    let a = t .before .before .before .before .before .before .before .args in
+    let m : Station = stationOf (a .state) (a .store) (a .out) in
+    said-as
+    (piece-line (lineProgram (a .profile)) m (now (a .piece)) (a .begins) (a .end) (ended (t .before)) (t .if2 .taken)) (k .answer .ensures)
+
+put-closing-requires : tie.Need-put-closing-requires
+put-closing-requires c κs = search needs
+
+same-length-5 : tie.Need-same-length-5
+same-length-5 c = search needs
+
+returns-3 : tie.Need-returns-3
+returns-3 c =
+    let k = c .before .before in
+    let t = k .before .before in
+    let a = t .before .before .before .before .before .before .before .args in
+    let m : Station = stationOf (a .state) (a .store) (a .out) in
+    said-as
+    (piece-long (lineProgram (a .profile)) m (now (a .piece)) (a .begins) (a .end) (ended (t .before)) (t .if2 .left))
+    (said-alone m (a .at) (k .put-closing .result) (now (a .text)) _ _ (k .put-closing .ensures))
+
+pub answer-piece-spec : {M : Type 1} → statement M
+answer-piece-spec =
+    tie.close
+    (tie.spec
+    ends-requires
+    kept-requires
+    same-length
+    returns
+    answer-requires
+    same-length-2
+    same-length-3
+    same-length-4
+    returns-2
+    put-closing-requires
+    same-length-5
+    returns-3)
