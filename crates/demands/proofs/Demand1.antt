@@ -32,13 +32,14 @@ use Rattle.tm.specs.Frame.{stamped}
 use Rattle.requests.specs.declared.Request.the-variants.{Memory, Connection}
 use Rattle.requests.specs.declared.Asked.{Asked}
 use Rattle.requests.specs.declared.Asked.the-variants.{Known, Unknown}
+use Rattle.decide.proofs.Decided.{accepted-facts}
 use Rattle.decide.specs.Table.{callerRows, areaRows, memoryRows, connectionRows, serviceRows, requestRows, rows, decided}
 use Rattle.terminal.specs.Outcome.{Input, verdictOn, octetsDue, outcomeOf, storeOn}
 use Rattle.terminal.proofs.Answering.{refused-store}
 use Rattle.terminal.proofs.Refusing.{no-octets, same-state, same-buffer, one-frame, one-count, frame-octets, frame-first}
 use Rattle.demands.specs.Terminal.{reference, rowsOn, askedOn}
 use Rattle.demands.specs.Packets.{referenceReader, referenceWriter}
-use Rattle.demands.specs.Refusing.{numbersOf, serviceNumbers, Decides, unreported, Unchanged, refusalFrame, Reported, Refuses, InOrder, ReaderRefuses, Writable, WriterRefuses}
+use Rattle.demands.specs.Refusing.{numbersOf, serviceNumbers, Decides, unreported, Unchanged, refusalFrame, Reported, Refuses, InOrder, UnknownRefused, ReaderRefuses, Writable, WriterRefuses}
 
 -- A table decides its own verdict.
 pub table-decides : (table : List (Row Refusal)) → Decides table (verdictBy table)
@@ -97,6 +98,16 @@ terminal-refuses = record {
   silent = silent-changes-nothing;
   reported = refusal-reports;
 }
+
+-- What is not known is never accepted. Ruled out: a terminal that accepts (6,3) and does nothing.
+pub unknown-refused : UnknownRefused reference
+unfolding outcomeOf
+unknown-refused i e =
+    by-test (isAccepted (verdictOn i))
+    (λ t.
+    let offered = accepted-facts (i .profile) (i .state) (length (i .store)) (length (i .out)) (i .packet) t .offered in
+    absurd (false≢true (rw e at offered)))
+    (λ f. f)
 
 -- ---- the reader
 

@@ -94,6 +94,10 @@ pub record Refuses (f : Terminal) : Type 0 where
 abbrev pub InOrder : Type 0
 InOrder = (i : Input) → numbersOf (rowsOn i) ≡ tableNumbers (askedOn i)
 
+-- What is not known is never accepted by a terminal: the table of such a packet ends with 4.
+abbrev pub UnknownRefused : Terminal → Type 0
+UnknownRefused f = (i : Input) → askedOn i ≡ Unknown → isAccepted (f i .outcome .verdict) ≡ false
+
 -- ---- the reader and the writer
 
 -- The demand of a reader: 42, 1, 2 and 16; "refused, all of them are 0 and the data is an empty part".
