@@ -28,6 +28,7 @@ use Rattle.writer.specs.Writer.{writtenNumber, fieldsRight, writerRows, written
 use Rattle.map.specs.declared.Profile.{Profile}
 use Rattle.counts.specs.declared.Counts.{Counts}
 use Rattle.counts.specs.Counts.{categoryOf, countIn}
+use Rattle.counts.proofs.Counting.{counted-report}
 use Rattle.tm.specs.Frame.{stamped}
 use Rattle.requests.specs.declared.Request.the-variants.{Memory, Connection}
 use Rattle.requests.specs.declared.Asked.{Asked}
@@ -86,7 +87,7 @@ refusal-reports i r h =
       written = frame-octets i r s;
       long = ap length (sym octets) ∙ frame-octets i r s;
       buffer = frame-first i r s ∙ rw octets;
-      state = ap (λ (c : Counts). record { counts = c }) (one-count i r s);
+      state = ap (λ (c : Counts). record { counts = c }) (one-count i r s ∙ sym (counted-report (i .state .counts)));
       store = refusal-keeps-store i r;
     }
 

@@ -8,6 +8,7 @@ use Rattle.tc.specs.Layout.{packetOf}
 use Rattle.writer.specs.Writer.{fieldsFor}
 use Rattle.map.specs.declared.Profile.{Profile}
 use Rattle.map.specs.Made.{allFlags, areaOf, areaWith, profileWith}
+use Rattle.counts.specs.Counts.{countsIn}
 use Rattle.decide.specs.declared.State.{State}
 use Rattle.terminal.specs.Outcome.{Input, input}
 use Rattle.lineunit.specs.Unit.{lineProfile, lineTime, lineStore, lineOut}
@@ -30,7 +31,7 @@ secondLine = 0x18 ∷ 0x5c ∷ 0xc0 ∷ 0x00 ∷ 0x00 ∷ 0x05 ∷ 0x19 ∷ 0x11
 
 -- The counts of categories 1 and 9 that a packet comes at.
 abbrev pub from : ℕ → ℕ → State
-from reports services = record { counts = record { reports = reports; services = services } }
+from reports services = record { counts = countsIn (octets16 reports ++ octets16 services) }
 
 -- A packet at the line program, from those counts.
 abbrev pub lineInput : State → List ℕ → Input

@@ -15,7 +15,7 @@ use Rattle.tc.specs.Reader.{readerRows, noFields}
 use Rattle.writer.specs.declared.Order.{Order}
 use Rattle.writer.specs.declared.Written.the-variants.{Packet}
 use Rattle.writer.specs.Writer.{writtenNumber, fieldsRight, isPacket}
-use Rattle.counts.specs.Counts.{nextCount}
+use Rattle.counts.specs.Counts.{advanced}
 use Rattle.tm.specs.Frame.{frameOf, timeOf}
 use Rattle.reports.specs.Source.{echoOf, failure}
 use Rattle.requests.specs.declared.Request.the-variants.{Memory, Connection}
@@ -76,12 +76,12 @@ refusalFrame i v =
     frameOf (record { pid = i .profile .pid; count = i .state .counts .reports; time = timeOf (i .time); kind = 1; subtype = 2 })
     (echoOf (i .packet) ++ failure (numberOf v) (detailOf v))
 
--- Any other refusal: that frame of 24 octets stands at the front of the buffer, whose other octets stay; category 1 has advanced by one; category 9 and the store stay.
+-- Any other refusal: that frame of 24 octets stands at the front of the buffer, whose other octets stay; of the counts that of category 1 has advanced by one; the store stays.
 pub record Reported (i : Input) (a : Answer) : Type 0 where
   pub written : a .outcome .written ≡ 24
   pub long : length (refusalFrame i (a .outcome .verdict)) ≡ 24
   pub buffer : a .out ≡ refusalFrame i (a .outcome .verdict) ++ drop 24 (i .out)
-  pub state : a .outcome .state ≡ record { counts = record { reports = nextCount (i .state .counts .reports); services = i .state .counts .services } }
+  pub state : a .outcome .state ≡ record { counts = advanced (i .state .counts) 1 }
   pub store : a .store ≡ i .store
 
 -- The demand of a terminal.
