@@ -126,7 +126,7 @@ fn more(t: Next, input: &mut Input, text: &Text) -> Next {
     let left = lines::carry(input, t.have, w);
     next.have = left.have;
     next.walk = from_front(left.begins);
-    match console::read(b"cases", input, left.have) {
+    match console::read(b"cases", libc::STDIN_FILENO, input, left.have) {
         Got::More(have) => next.have = have,
         Got::End => next.ended = true,
         Got::Failed => next.on = false,

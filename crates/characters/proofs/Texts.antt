@@ -71,11 +71,11 @@ two-more s i h =
     (next s (2 * i + 1) h ∙ ap (λ (n : ℕ). getD s (2 * i + 1) 0 ∷ drop n s) behind)
 
 -- An octet set, and behind it those that follow.
-pub laid-octets-next : (d s : List ℕ) (i high low : ℕ) → 2 * i + 1 < length s → high ≡ valueOf (getD s (2 * i) 0) → low ≡ valueOf (getD s (2 * i + 1) 0)
-    → laid (set d i (high % 16 * 16 + low % 16)) (i + 1) (octetsIn (drop (2 * (i + 1)) s)) ≡ laid d i (octetsIn (drop (2 * i) s))
+pub laid-octets-next : (d s : List ℕ) (at i high low : ℕ) → 2 * i + 1 < length s → high ≡ valueOf (getD s (2 * i) 0) → low ≡ valueOf (getD s (2 * i + 1) 0)
+    → laid (set d at (high % 16 * 16 + low % 16)) (at + 1) (octetsIn (drop (2 * (i + 1)) s)) ≡ laid d at (octetsIn (drop (2 * i) s))
 unfolding laid octetsIn
-laid-octets-next d s i high low h e f =
-    rw (e, f) (sym (ap (λ (r : List ℕ). laid d i (octetsIn r)) (two-more s i h)))
+laid-octets-next d s at i high low h e f =
+    rw (e, f) (sym (ap (λ (r : List ℕ). laid d at (octetsIn r)) (two-more s i h)))
 
 -- One character alone is no octet.
 one-left : (s : List ℕ) → length s ≤ 1 → octetsIn s ≡ []
@@ -85,9 +85,9 @@ one-left (c ∷ []) h = refl
 one-left (c ∷ e ∷ s) h = absurd (omega arith)
 
 -- At the end no octet is left.
-pub laid-octets-end : (d : List ℕ) (i : ℕ) (s : List ℕ) → length (drop (2 * i) s) ≤ 1 → laid d i (octetsIn (drop (2 * i) s)) ≡ d
+pub laid-octets-end : (d : List ℕ) (at i : ℕ) (s : List ℕ) → length (drop (2 * i) s) ≤ 1 → laid d at (octetsIn (drop (2 * i) s)) ≡ d
 unfolding laid
-laid-octets-end d i s h = ap (λ (r : List ℕ). laid d i r) (one-left (drop (2 * i) s) h)
+laid-octets-end d at i s h = ap (λ (r : List ℕ). laid d at r) (one-left (drop (2 * i) s) h)
 
 pub octets-length : (s : List ℕ) → length (octetsIn s) ≡ length s / 2
 unfolding octetsIn

@@ -57,19 +57,21 @@ pub fn all_digits(text: &[u8]) -> bool
     true
 }
 
-// Lays the octets of a text at the front of a buffer; those that would stand past its end are dropped.
-pub fn decode(text: &[u8], octets: &mut [u8])
-    ensures { λ _. ⌜ now (octets .exit) ≡ laid (now (octets .entry)) 0 (octetsIn (now (text .entry))) ⌝ }
+// Lays the octets of a text over a buffer's own from a place on; those that would stand past its end are dropped.
+pub fn decode(text: &[u8], octets: &mut [u8], at: usize)
+    ensures { λ _. ⌜ now (octets .exit) ≡ laid (now (octets .entry)) at (octetsIn (now (text .entry))) ⌝ }
 {
     let count = text.len() / 2;
+    let mut place = at;
     let mut i = 0;
     while i < count {
-        if octets.len() <= i {
+        if octets.len() <= place {
             return;
         }
         let high = crate::value(text[2 * i]);
         let low = crate::value(text[2 * i + 1]);
-        octets[i] = high % 16 * 16 + low % 16;
+        octets[place] = high % 16 * 16 + low % 16;
+        place += 1;
         i += 1;
     }
 }

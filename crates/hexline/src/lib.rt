@@ -54,7 +54,7 @@ pub fn answer(
         return Written { at: end, state };
     }
     let mut packet = [0u8; PACKET_ROOM];
-    characters::text::decode(line, &mut packet);
+    characters::text::decode(line, &mut packet, 0);
     let count = line.len() / 2;
     serve(profile, state, &packet[..count], store, out, text, at)
 }

@@ -1,6 +1,8 @@
 // The line program of document 01: a packet a line on standard input, and on standard output its frames and a closing line.
 use console::Got;
-use hexfeed::Progress;
+use feeding::Progress;
+use tasks::Task;
+use unit::Draft;
 
 // How much each buffer holds. The input has room behind the longest open piece, 4,096 characters, for 65,536 more.
 const INPUT_ROOM: usize = 69632;
@@ -36,7 +38,7 @@ fn write(text: &Text, count: usize) -> bool {
 
 // Answers what is left at the end of the input.
 fn end(p: Progress, input: &Input, store: &mut Store, frames: &mut Frames, text: &mut Text) {
-    let last = hexfeed::finish(lineunit::profile(), p, input, store, frames, text);
+    let last = feeding::finish(Task::Line, p, input, store, frames, text);
     write(text, last.at);
 }
 
@@ -49,13 +51,13 @@ fn more(
     text: &mut Text,
 ) -> Next {
     let mut l = p.lines;
-    match console::read(b"line", input, l.have) {
+    match console::read(b"line", libc::STDIN_FILENO, input, l.have) {
         Got::More(have) => {
             l.have = have;
-            let state = p.state;
+            let desk = p.desk;
             Next {
                 on: true,
-                p: Progress { lines: l, state },
+                p: Progress { lines: l, desk },
             }
         }
         Got::End => {
@@ -74,7 +76,7 @@ fn turn(
     frames: &mut Frames,
     text: &mut Text,
 ) -> Next {
-    let fed = hexfeed::feed(lineunit::profile(), p, input, store, frames, text);
+    let fed = feeding::feed(Task::Line, p, input, store, frames, text);
     let l = fed.lines;
     if !write(text, l.at) {
         return Next { on: false, p: fed };
@@ -85,12 +87,24 @@ fn turn(
     more(fed, input, store, frames, text)
 }
 
+// The line program's unit, before the first line.
+fn start() -> Progress {
+    let draft = Draft {
+        profile: lineunit::profile(),
+        pid: true,
+        services: true,
+        store: true,
+        stored: STORE_ROOM,
+    };
+    feeding::start(tasks::start(draft))
+}
+
 // A proved loop has to end, and nothing says that the input does. So the loop counts its turns down, from a number that no run uses up.
 fn run(input: &mut Input, store: &mut Store, frames: &mut Frames, text: &mut Text) {
     let mut turns = u64::MAX;
     let mut t = Next {
         on: true,
-        p: hexfeed::start(),
+        p: start(),
     };
     while turns > 0 && t.on {
         let p = t.p;

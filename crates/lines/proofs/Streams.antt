@@ -1,4 +1,4 @@
--- However an input is divided into parts, what is said of them in turn, and then of the last piece, is the output on the whole: for any program over pieces.
+-- However an input is divided into parts, what they come to in turn, and then the last piece, is what the whole comes to: for any program over pieces and any measure.
 -- Assumes nothing.
 use mathlib.Core.Path.{_≡_, refl, sym, ap, _∙_}
 use mathlib.Core.Bool.{Bool, true}
@@ -8,41 +8,21 @@ use native.Mathlib.Omega.{arith}
 use lib.ListN.{length, replicate, length-append}
 use Rattle.laws.proofs.Tests.{by-test}
 use Rattle.laws.specs.Fold.{joined}
-use Rattle.lines.specs.Turn.{Program, Turn, waits, outputFrom, turnOf, lastSays, turnsOf}
+use Rattle.lines.specs.Turn.{Program, Turn, waits, outputFrom, turnOf, lastSays, lastBecomes, turnsOf}
 use Rattle.laws.proofs.Fold.{joined-more}
+use Rattle.lines.proofs.Measures.{Measure, whatIsSaid}
 use Rattle.lines.proofs.Opening.{Open, open-none, turn-none}
-use Rattle.lines.proofs.Turns.{Fits, output-last, turn-said, turn-open, turn-most, turn-less}
+use Rattle.lines.proofs.Turns.{Fits, comesTo, open-comes, turn-comes, turn-open, turn-most, turn-less}
 
 module _ {M : Type 0} (p : Program M) (fits : Fits p) where
-  -- However an input is divided, what is said, and then the output on what is left, is the output on the whole.
-  pub turns-said : (room : ℕ) («open» : Bool) (m : M) (b : Bool) (left : List ℕ) (parts : List (List ℕ))
-      → (let t : Turn M = turnsOf p room «open» m b left parts in t .said ++ outputFrom p (t .after) (t .begins) (t .left) ≡ outputFrom p m b (left ++ joined parts))
-  unfolding turnsOf joined
-  turns-said room «open» m b left [] = ap (outputFrom p m b) (sym (append-nil left))
-  turns-said room «open» m b left (part ∷ parts) =
-      let t : Turn M = turnOf p room m b (left ++ part) in
-      let u : Turn M = turnsOf p room (t .«open») (t .after) (t .begins) (t .left) parts in
-      append-assoc (t .said) (u .said) (outputFrom p (u .after) (u .begins) (u .left))
-      ∙ ap (λ (r : List ℕ). t .said ++ r) (turns-said room (t .«open») (t .after) (t .begins) (t .left) parts)
-      ∙ turn-said p fits room m b (left ++ part) (joined parts)
-      ∙ ap (outputFrom p m b) (append-assoc left part (joined parts))
-
   -- What is left where no whole piece is, is an open piece.
-  pub turns-open : (room : ℕ) («open» : Bool) (m : M) (b : Bool) (left : List ℕ) (parts : List (List ℕ)) → («open» ≡ true → Open p b left)
+  turns-open : (room : ℕ) («open» : Bool) (m : M) (b : Bool) (left : List ℕ) (parts : List (List ℕ)) → («open» ≡ true → Open p b left)
       → (let t : Turn M = turnsOf p room «open» m b left parts in t .«open» ≡ true → Open p (t .begins) (t .left))
   unfolding turnsOf
   turns-open room «open» m b left [] h o = h o
   turns-open room «open» m b left (part ∷ parts) h o =
       let t : Turn M = turnOf p room m b (left ++ part) in
       turns-open room (t .«open») (t .after) (t .begins) (t .left) parts (turn-open p fits room m b (left ++ part)) o
-
-  -- Where no whole piece is left in the end, what is said, and then of the last piece, is the whole output.
-  pub turns-whole : (room : ℕ) (m : M) (parts : List (List ℕ))
-      → (let t : Turn M = turnsOf p room true m true [] parts in t .«open» ≡ true → t .said ++ lastSays p (t .after) (t .begins) (t .left) ≡ outputFrom p m true (joined parts))
-  turns-whole room m parts o =
-      let t : Turn M = turnsOf p room true m true [] parts in
-      ap (λ (r : List ℕ). t .said ++ r) (sym (output-last p (t .after) (t .begins) (t .left) (turns-open room true m true [] parts (λ h. open-none p true) o)))
-      ∙ turns-said room true m true [] parts
 
   -- ---- turns without more input
 
@@ -74,8 +54,38 @@ module _ {M : Type 0} (p : Program M) (fits : Fits p) where
       ended room n (t .«open») (t .after) (t .begins) (t .left) parts r
       (omega (arith, turn-most p fits room m b (left ++ part), length-append left part, length-append part (joined parts)))
 
-  -- However an input is divided: what is said of its parts in turn, and then in turns without more input until no whole piece is left, and then of the last piece, is the output on the whole.
+  -- ---- any measure
+
+  module _ {X : Type 0} (k : Measure M X) where
+    -- However an input is divided, what is said, added to what the input that is left comes to, is what the whole comes to.
+    turns-come : (room : ℕ) («open» : Bool) (m : M) (b : Bool) (left : List ℕ) (parts : List (List ℕ))
+        → (let t : Turn M = turnsOf p room «open» m b left parts in k .add (t .said) (comesTo k p (t .after) (t .begins) [] (t .left)) ≡ comesTo k p m b [] (left ++ joined parts))
+    unfolding turnsOf joined
+    turns-come room «open» m b left [] = k .add-none (comesTo k p m b [] left) ∙ ap (comesTo k p m b []) (sym (append-nil left))
+    turns-come room «open» m b left (part ∷ parts) =
+        let t : Turn M = turnOf p room m b (left ++ part) in
+        let u : Turn M = turnsOf p room (t .«open») (t .after) (t .begins) (t .left) parts in
+        k .add-append (t .said) (u .said) (comesTo k p (u .after) (u .begins) [] (u .left))
+        ∙ ap (k .add (t .said)) (turns-come room (t .«open») (t .after) (t .begins) (t .left) parts)
+        ∙ turn-comes p fits k room m b (left ++ part) (joined parts)
+        ∙ ap (comesTo k p m b []) (append-assoc left part (joined parts))
+
+    -- However an input is divided: what its parts come to in turn, and then turns without more input until no whole piece is left, and then the last piece, is what the whole comes to.
+    pub stream-comes : (room n : ℕ) (m : M) (parts : List (List ℕ)) → p .most ≤ room → length (joined parts) < n
+        → (let t : Turn M = turnsOf p room true m true [] (parts ++ replicate n []) in
+        k .add (t .said) (k .add (lastSays p (t .after) (t .begins) (t .left)) (k .none (lastBecomes p (t .after) (t .begins) (t .left)))) ≡ comesTo k p m true [] (joined parts))
+    stream-comes room n m parts r h =
+        let all : List (List ℕ) = parts ++ replicate n [] in
+        let t : Turn M = turnsOf p room true m true [] all in
+        let o : Open p (t .begins) (t .left) = turns-open room true m true [] all (λ e. open-none p true) (ended room n true m true [] parts r (omega arith)) in
+        ap (k .add (t .said)) (sym (open-comes k p (t .after) (t .begins) (t .left) o))
+        ∙ turns-come room true m true [] all
+        ∙ ap (comesTo k p m true []) (joined-more parts n)
+
+  -- So what is said of the parts in turn, and then in turns without more input, and then of the last piece, is the output on the whole.
   pub stream-whole : (room n : ℕ) (m : M) (parts : List (List ℕ)) → p .most ≤ room → length (joined parts) < n
       → (let t : Turn M = turnsOf p room true m true [] (parts ++ replicate n []) in t .said ++ lastSays p (t .after) (t .begins) (t .left) ≡ outputFrom p m true (joined parts))
+  unfolding outputFrom
   stream-whole room n m parts r h =
-      turns-whole room m (parts ++ replicate n []) (ended room n true m true [] parts r (omega arith)) ∙ ap (outputFrom p m true) (joined-more parts n)
+      let t : Turn M = turnsOf p room true m true [] (parts ++ replicate n []) in
+      ap (λ (s : List ℕ). t .said ++ s) (sym (append-nil (lastSays p (t .after) (t .begins) (t .left)))) ∙ stream-comes whatIsSaid room n m parts r h

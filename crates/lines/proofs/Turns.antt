@@ -1,6 +1,6 @@
--- Laws of one turn, for any program over pieces.
+-- Laws of one turn, for any program over pieces: what it comes to by any measure, what it leaves, and the room it takes.
 -- Assumes nothing.
-use mathlib.Core.Path.{_≡_, refl, sym, ap, _∙_}
+use mathlib.Core.Path.{_≡_, sym, ap, _∙_}
 use mathlib.Core.Bool.{Bool, true, false, false≢true}
 use mathlib.Core.List.{List, [], _∷_, _++_, append-assoc, append-nil}
 use Prim.Native.Nat.{ℕ, _+_, _-_, _≤_, _<_}
@@ -10,9 +10,9 @@ use Rattle.octets.specs.Copy.{laid}
 use Rattle.octets.proofs.Laid.{laid-front}
 use Rattle.laws.proofs.Order.{by-order}
 use Rattle.lines.specs.declared.End.the-variants.{On, Newline, Last}
-use Rattle.lines.specs.Pieces.{Piece, piece, lastOf, cutFrom}
-use Rattle.laws.specs.Fold.{answers, joined}
-use Rattle.lines.specs.Turn.{Program, Turn, waits, outputFrom, turnFrom, turnOf, lastSays}
+use Rattle.lines.specs.Pieces.{Piece, piece, cutFrom}
+use Rattle.lines.specs.Turn.{Program, Turn, waits, outputFrom, turnFrom, turnOf, lastSays, lastBecomes}
+use Rattle.lines.proofs.Measures.{Measure, whatIsSaid}
 use Rattle.lines.proofs.Opening.{Open, open-none, open-more, open-one, cut-newline, cut-more, cut-on, answered, turn-none, turn-newline, turn-more, turn-on, turn-full-newline, turn-full-on, by-character}
 
 -- A program's numbers fit: a piece has at least one character, and every answer to a piece is at most as long as it says.
@@ -20,79 +20,78 @@ pub record Fits {M : Type 0} (p : Program M) : Type 0 where
   pub positive : 1 ≤ p .bound
   pub answer-most : (m : M) (x : Piece) → length (x .text) ≤ p .bound → length (p .says m x) ≤ p .most
 
-module _ {M : Type 0} (p : Program M) where
-  -- What is said to some pieces.
-  abbrev saidTo : M → List Piece → List ℕ
-  saidTo m xs = joined (answers (p .says) (p .becomes) m xs)
+module _ {M X : Type 0} (k : Measure M X) (p : Program M) where
+  -- What some pieces come to.
+  abbrev ofPieces : M → List Piece → X
+  ofPieces m xs = k .of (p .says) (p .becomes) m xs
 
-  said-cons : (m : M) (x : Piece) (xs : List Piece) → saidTo m (x ∷ xs) ≡ p .says m x ++ saidTo (p .becomes m x) xs
-  unfolding answers joined
-  said-cons m x xs = refl
+  -- What some input comes to behind the characters of an open piece.
+  abbrev pub comesTo : M → Bool → List ℕ → List ℕ → X
+  comesTo m b u s = ofPieces m (cutFrom (p .bound) b u s)
 
-  -- An open piece at the end of the input.
-  said-last : (m : M) (b : Bool) (u : List ℕ) → saidTo m (lastOf b u) ≡ lastSays p m b u
-  unfolding answers joined
-  said-last m b [] = refl
-  said-last m b (c ∷ u) = append-nil (p .says m (piece b (c ∷ u) Last))
-
-  cut-none : (bound : ℕ) (b : Bool) (u : List ℕ) → cutFrom bound b u [] ≡ lastOf b u
+  -- An open piece at the end of the input is the last.
+  comes-last : (m : M) (b : Bool) (u : List ℕ) → comesTo m b u [] ≡ k .add (lastSays p m b u) (k .none (lastBecomes p m b u))
   unfolding cutFrom
-  cut-none bound b u = refl
+  comes-last m b [] = k .of-none (p .says) (p .becomes) m ∙ sym (k .add-none (k .none m))
+  comes-last m b (c ∷ u) =
+      let x : Piece = piece b (c ∷ u) Last in
+      k .of-cons (p .says) (p .becomes) m x [] ∙ ap (k .add (p .says m x)) (k .of-none (p .says) (p .becomes) (p .becomes m x))
 
-  pub output-last : (m : M) (b : Bool) (u : List ℕ) → Open p b u → outputFrom p m b u ≡ lastSays p m b u
-  unfolding outputFrom
-  output-last m b u o =
-      ap (λ (s : List ℕ). saidTo m (cutFrom (p .bound) b [] s)) (sym (append-nil u))
-      ∙ ap (saidTo m) (o .cuts [] ∙ cut-none (p .bound) b u)
-      ∙ said-last m b u
+  -- The same where it is all of the input.
+  pub open-comes : (m : M) (b : Bool) (u : List ℕ) → Open p b u → comesTo m b [] u ≡ k .add (lastSays p m b u) (k .none (lastBecomes p m b u))
+  open-comes m b u o = ap (comesTo m b []) (sym (append-nil u)) ∙ ap (ofPieces m) (o .cuts []) ∙ comes-last m b u
 
   -- ---- a turn behind an open piece
 
-  -- What a turn says, and then what is said of what it leaves, with more input behind it.
-  abbrev all : Turn M → List ℕ → List ℕ
-  all t more = t .said ++ saidTo (t .after) (cutFrom (p .bound) (t .begins) [] (t .left ++ more))
+  -- What a turn says, added to what the input that it leaves comes to, with more input behind it.
+  abbrev all : Turn M → List ℕ → X
+  all t more = k .add (t .said) (comesTo (t .after) (t .begins) [] (t .left ++ more))
 
   -- No piece is answered for want of room.
-  all-waits : (o : Bool) (m : M) (b : Bool) (u s more : List ℕ) → Open p b u → all (waits o m b (u ++ s)) more ≡ saidTo m (cutFrom (p .bound) b u (s ++ more))
+  all-waits : (o : Bool) (m : M) (b : Bool) (u s more : List ℕ) → Open p b u → all (waits o m b (u ++ s)) more ≡ comesTo m b u (s ++ more)
   all-waits o m b u s more h =
-      ap (λ (r : List ℕ). saidTo m (cutFrom (p .bound) b [] r)) (append-assoc u s more) ∙ ap (saidTo m) (h .cuts (s ++ more))
+      k .add-none (comesTo m b [] ((u ++ s) ++ more))
+      ∙ ap (comesTo m b []) (append-assoc u s more)
+      ∙ ap (ofPieces m) (h .cuts (s ++ more))
 
   -- A piece is answered.
   all-answered : (room : ℕ) (m : M) (x : Piece) (b : Bool) (u s more : List ℕ)
-      → all (turnFrom p (room - length (p .says m x)) (p .becomes m x) b u s) more ≡ saidTo (p .becomes m x) (cutFrom (p .bound) b u (s ++ more))
-      → all (answered p room m x b u s) more ≡ saidTo m (x ∷ cutFrom (p .bound) b u (s ++ more))
+      → all (turnFrom p (room - length (p .says m x)) (p .becomes m x) b u s) more ≡ comesTo (p .becomes m x) b u (s ++ more)
+      → all (answered p room m x b u s) more ≡ ofPieces m (x ∷ cutFrom (p .bound) b u (s ++ more))
   all-answered room m x b u s more e =
       let t : Turn M = turnFrom p (room - length (p .says m x)) (p .becomes m x) b u s in
-      append-assoc (p .says m x) (t .said) (saidTo (t .after) (cutFrom (p .bound) (t .begins) [] (t .left ++ more)))
-      ∙ ap (λ (r : List ℕ). p .says m x ++ r) e
-      ∙ sym (said-cons m x (cutFrom (p .bound) b u (s ++ more)))
+      k .add-append (p .says m x) (t .said) (comesTo (t .after) (t .begins) [] (t .left ++ more))
+      ∙ ap (k .add (p .says m x)) e
+      ∙ sym (k .of-cons (p .says) (p .becomes) m x (cutFrom (p .bound) b u (s ++ more)))
 
-  said-from : (positive : 1 ≤ p .bound) (room : ℕ) (m : M) (b : Bool) (u s more : List ℕ) → Open p b u
-      → all (turnFrom p room m b u s) more ≡ saidTo m (cutFrom (p .bound) b u (s ++ more))
-  said-from positive room m b u [] more o = rw (turn-none p room m b u) (ap (saidTo m) (o .cuts more))
-  said-from positive room m b u (c ∷ s) more o =
+  comes-from : (positive : 1 ≤ p .bound) (room : ℕ) (m : M) (b : Bool) (u s more : List ℕ) → Open p b u
+      → all (turnFrom p room m b u s) more ≡ comesTo m b u (s ++ more)
+  comes-from positive room m b u [] more o =
+      rw (turn-none p room m b u) (k .add-none (comesTo m b [] (u ++ more)) ∙ ap (ofPieces m) (o .cuts more))
+  comes-from positive room m b u (c ∷ s) more o =
       by-character (p .bound) u c
       (λ e.
       by-order (p .most) room
-      (λ k.
-      rw (turn-newline p room m b u c s e k)
+      (λ h.
+      rw (turn-newline p room m b u c s e h)
       (all-answered room m (piece b u Newline) true [] s more
-      (said-from positive (room - length (p .says m (piece b u Newline))) (p .becomes m (piece b u Newline)) true [] s more (open-none p true))
-      ∙ ap (saidTo m) (sym (cut-newline (p .bound) b u c (s ++ more) e))))
-      (λ k. rw (turn-full-newline p room m b u c s e k) (all-waits false m b u (c ∷ s) more o)))
-      (λ e h.
-      rw (turn-more p room m b u c s e h)
-      (said-from positive room m b (u ++ c ∷ []) s more (open-more p b u c o e h)
-      ∙ ap (saidTo m) (sym (cut-more (p .bound) b u c (s ++ more) e h))))
-      (λ e h.
+      (comes-from positive (room - length (p .says m (piece b u Newline))) (p .becomes m (piece b u Newline)) true [] s more (open-none p true))
+      ∙ ap (ofPieces m) (sym (cut-newline (p .bound) b u c (s ++ more) e))))
+      (λ h. rw (turn-full-newline p room m b u c s e h) (all-waits false m b u (c ∷ s) more o)))
+      (λ e i.
+      rw (turn-more p room m b u c s e i)
+      (comes-from positive room m b (u ++ c ∷ []) s more (open-more p b u c o e i)
+      ∙ ap (ofPieces m) (sym (cut-more (p .bound) b u c (s ++ more) e i))))
+      (λ e i.
       by-order (p .most) room
-      (λ k.
-      rw (turn-on p room m b u c s e h k)
+      (λ h.
+      rw (turn-on p room m b u c s e i h)
       (all-answered room m (piece b u On) false (c ∷ []) s more
-      (said-from positive (room - length (p .says m (piece b u On))) (p .becomes m (piece b u On)) false (c ∷ []) s more (open-one p false c positive e))
-      ∙ ap (saidTo m) (sym (cut-on (p .bound) b u c (s ++ more) e h))))
-      (λ k. rw (turn-full-on p room m b u c s e h k) (all-waits false m b u (c ∷ s) more o)))
+      (comes-from positive (room - length (p .says m (piece b u On))) (p .becomes m (piece b u On)) false (c ∷ []) s more (open-one p false c positive e))
+      ∙ ap (ofPieces m) (sym (cut-on (p .bound) b u c (s ++ more) e i))))
+      (λ h. rw (turn-full-on p room m b u c s e i h) (all-waits false m b u (c ∷ s) more o)))
 
+module _ {M : Type 0} (p : Program M) where
   -- What is left where no whole piece is, is an open piece.
   open-from : (positive : 1 ≤ p .bound) (room : ℕ) (m : M) (b : Bool) (u s : List ℕ) → Open p b u
       → turnFrom p room m b u s .«open» ≡ true → Open p (turnFrom p room m b u s .begins) (turnFrom p room m b u s .left)
@@ -175,14 +174,19 @@ module _ {M : Type 0} (p : Program M) where
       (room-from fits (room - length (p .says m (piece b u On))) (p .becomes m (piece b u On)) false (c ∷ []) s (fits .positive))))
       (λ k. rw (turn-full-on p room m b u c s e h k) (omega arith)))
 
-module _ {M : Type 0} (p : Program M) (fits : Fits p) where
-  -- ---- laws for those who feed
+-- ---- laws for those who feed
 
-  -- Whatever follows, what is said, and then the output on what is left, is the output on all of it.
+module _ {M : Type 0} (p : Program M) (fits : Fits p) where
+  -- Whatever follows, what is said, added to what the input that is left comes to, is what all of it comes to.
+  pub turn-comes : {X : Type 0} (k : Measure M X) (room : ℕ) (m : M) (b : Bool) (s more : List ℕ)
+      → (let t : Turn M = turnOf p room m b s in k .add (t .said) (comesTo k p (t .after) (t .begins) [] (t .left ++ more)) ≡ comesTo k p m b [] (s ++ more))
+  turn-comes k room m b s more = comes-from k p (fits .positive) room m b [] s more (open-none p b)
+
+  -- So what is said, and then the output on what is left, is the output on all of it.
   pub turn-said : (room : ℕ) (m : M) (b : Bool) (s more : List ℕ)
       → (let t : Turn M = turnOf p room m b s in t .said ++ outputFrom p (t .after) (t .begins) (t .left ++ more) ≡ outputFrom p m b (s ++ more))
   unfolding outputFrom
-  turn-said room m b s more = said-from p (fits .positive) room m b [] s more (open-none p b)
+  turn-said room m b s more = turn-comes whatIsSaid room m b s more
 
   -- What is said fills the front of a text of that room.
   pub turn-written : (m : M) (b : Bool) (s text : List ℕ)

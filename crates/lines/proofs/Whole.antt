@@ -1,6 +1,6 @@
--- A program that answers lines says over the pieces of an input what it says to its lines, however the input is divided.
+-- A program that answers lines says and becomes over the pieces of an input what it does over its lines, however the input is divided.
 -- Assumes nothing.
-use mathlib.Core.Path.{_≡_, refl, sym, ap, ap₂, subst, _∙_}
+use mathlib.Core.Path.{_≡_, refl, sym, ap, subst, _∙_}
 use mathlib.Core.Bool.{Bool, true, false, cond, false≢true}
 use mathlib.Core.List.{List, [], _∷_, _++_, append-assoc, append-nil}
 use Prim.Native.Nat.{ℕ, _≤_, _<_}
@@ -14,12 +14,13 @@ use Rattle.lines.specs.declared.End.the-variants.{On, Newline, Last}
 use Rattle.lines.specs.Lines.{newline, before, linesOf}
 use Rattle.lines.specs.Pieces.{Piece, piece, lastOf, cutFrom, piecesOf, addedTo, together}
 use Rattle.lines.specs.Cuts.{endsLine}
-use Rattle.laws.specs.Fold.{answers, joined}
-use Rattle.lines.specs.Turn.{Turn, outputFrom, lastSays, turnsOf}
+use Rattle.laws.specs.Fold.{reached, joined}
+use Rattle.lines.specs.Turn.{Turn, outputFrom, lastSays, lastBecomes, turnsOf}
 use Rattle.lines.specs.Feed.{LineProgram, lineSays, lineBecomes, outputOf, pieceSays, pieceBecomes, overPieces}
+use Rattle.lines.proofs.Measures.{Measure, whatIsSaid, whatIsReached, same-none, same-cons}
 use Rattle.lines.proofs.Opening.{cut-newline, cut-more, cut-on, by-character}
 use Rattle.lines.proofs.Turns.{Fits}
-use Rattle.lines.proofs.Streams.{stream-whole}
+use Rattle.lines.proofs.Streams.{stream-comes, stream-whole}
 
 -- ---- lines behind the characters of an open one
 
@@ -102,83 +103,6 @@ pieces-together bound input = together-from bound true [] input ∙ lines-from [
 
 -- ---- pieces and lines
 
-module _ {M : Type 0} (p : LineProgram M) where
-  -- An open line, and its open piece: all of the line, or a part of one that is too long.
-  abbrev Part : Bool → List ℕ → List ℕ → Type 0
-  Part true u w = (w ≡ u) × (length u ≤ p .bound)
-  Part false u w = (1 ≤ length u) × (p .bound < length w)
-
-  -- At its end the line is answered.
-  part-says : (b : Bool) (u w : List ℕ) (m : M) → Part b u w → cond b (p .says m u) (p .says-long m) ≡ lineSays p m w
-  part-says true u w m h = rw (h .0, le-leb (length u) (p .bound) (h .1)) refl
-  part-says false u w m h = rw (lt-leb (length w) (p .bound) (h .1)) refl
-
-  part-becomes : (b : Bool) (u w : List ℕ) (m : M) → Part b u w → cond b (p .becomes m u) (p .becomes-long m) ≡ lineBecomes p m w
-  part-becomes true u w m h = rw (h .0, le-leb (length u) (p .bound) (h .1)) refl
-  part-becomes false u w m h = rw (lt-leb (length w) (p .bound) (h .1)) refl
-
-  -- One character more, in the piece or in the next.
-  part-more : (b : Bool) (u w : List ℕ) (c : ℕ) → Part b u w → length u < p .bound → Part b (u ++ c ∷ []) (w ++ c ∷ [])
-  part-more true u w c h k = (ap (λ (l : List ℕ). l ++ c ∷ []) (h .0), omega (arith, length-append u (c ∷ [])))
-  part-more false u w c h k = (omega (arith, length-append u (c ∷ [])), omega (arith, h .1, length-append w (c ∷ [])))
-
-  part-on : (b : Bool) (u w : List ℕ) (c : ℕ) → Part b u w → p .bound ≤ length u → Part false (c ∷ []) (w ++ c ∷ [])
-  part-on true u w c h k = (omega arith, omega (arith, ap length (h .0), length-append w (c ∷ [])))
-  part-on false u w c h k = (omega arith, omega (arith, h .1, length-append w (c ∷ [])))
-
-  abbrev saidToPieces : M → List Piece → List ℕ
-  saidToPieces m xs = joined (answers (overPieces p .says) (overPieces p .becomes) m xs)
-
-  abbrev saidToLines : M → List (List ℕ) → List ℕ
-  saidToLines m ls = joined (answers (lineSays p) (lineBecomes p) m ls)
-
-  -- A piece that ends its line, and behind it as many more as there are.
-  said-ended : (b : Bool) (u w : List ℕ) (m : M) (xs : List Piece) (ls : List (List ℕ)) → Part b u w
-      → ((n : M) → saidToPieces n xs ≡ saidToLines n ls) → saidToPieces m (piece b u Newline ∷ xs) ≡ saidToLines m (w ∷ ls)
-  unfolding answers joined
-  said-ended b u w m xs ls h e =
-      ap₂ (λ (a r : List ℕ). a ++ r) (part-says b u w m h) (e (cond b (p .becomes m u) (p .becomes-long m)) ∙ ap (λ (n : M). saidToLines n ls) (part-becomes b u w m h))
-
-  -- A piece of a line that goes on.
-  said-on : (b : Bool) (u : List ℕ) (m : M) (xs : List Piece) → saidToPieces m (piece b u On ∷ xs) ≡ saidToPieces m xs
-  unfolding answers joined
-  said-on b u m xs = refl
-
-  -- The end of the input.
-  said-last : (b : Bool) (u w : List ℕ) (m : M) → Part b u w → saidToPieces m (lastOf b u) ≡ saidToLines m (lastLine w)
-  unfolding answers joined
-  said-last true [] [] m h = refl
-  said-last true [] (d ∷ w) m h = absurd (omega (arith, ap length (h .0)))
-  said-last true (c ∷ u) [] m h = absurd (omega (arith, ap length (h .0)))
-  said-last true (c ∷ u) (d ∷ w) m h = ap (λ (a : List ℕ). a ++ []) (part-says true (c ∷ u) (d ∷ w) m h)
-  said-last false [] w m h = absurd (omega (arith, h .0))
-  said-last false (c ∷ u) [] m h = absurd (omega (arith, h .1))
-  said-last false (c ∷ u) (d ∷ w) m h = ap (λ (a : List ℕ). a ++ []) (part-says false (c ∷ u) (d ∷ w) m h)
-
-  said-from : (m : M) (b : Bool) (u w s : List ℕ) → Part b u w → saidToPieces m (cutFrom (p .bound) b u s) ≡ saidToLines m (linesFrom w s)
-  unfolding cutFrom linesFrom
-  said-from m b u w [] h = said-last b u w m h
-  said-from m b u w (c ∷ s) h =
-      by-character (p .bound) u c
-      (λ e.
-      ap (saidToPieces m) (cut-newline (p .bound) b u c s e)
-      ∙ said-ended b u w m (cutFrom (p .bound) true [] s) (linesFrom [] s) h (λ n. said-from n true [] [] s (refl, omega arith))
-      ∙ ap (saidToLines m) (sym (lines-newline w c s e)))
-      (λ e k.
-      ap (saidToPieces m) (cut-more (p .bound) b u c s e k)
-      ∙ said-from m b (u ++ c ∷ []) (w ++ c ∷ []) s (part-more b u w c h k)
-      ∙ ap (saidToLines m) (sym (lines-other w c s e)))
-      (λ e k.
-      ap (saidToPieces m) (cut-on (p .bound) b u c s e k)
-      ∙ said-on b u m (cutFrom (p .bound) false (c ∷ []) s)
-      ∙ said-from m false (c ∷ []) (w ++ c ∷ []) s (part-on b u w c h k)
-      ∙ ap (saidToLines m) (sym (lines-other w c s e)))
-
-  -- Over the pieces of an input a program says what it says to its lines.
-  pub pieces-lines : (m : M) (input : List ℕ) → outputFrom (overPieces p) m true input ≡ outputOf p m input
-  unfolding outputFrom outputOf
-  pieces-lines m input = said-from m true [] [] input (refl, omega arith) ∙ ap (saidToLines m) (lines-from [] input)
-
 -- What a line program says to a piece, by whether the piece ends its line and whether it is all of it.
 module _ {M : Type 0} (p : LineProgram M) (m : M) (text : List ℕ) where
   -- An answer to a piece, and what the machine becomes.
@@ -206,6 +130,84 @@ module _ {M : Type 0} (p : LineProgram M) (m : M) (text : List ℕ) where
   piece-long b end e h =
       subst (λ (k : Bool). PieceSaid b end (cond k (p .says m text) (p .says-long m)) (cond k (p .becomes m text) (p .becomes-long m))) h (piece-ended b end e)
 
+module _ {M : Type 0} (p : LineProgram M) where
+  -- An open line, and its open piece: all of the line, or a part of one that is too long.
+  abbrev Part : Bool → List ℕ → List ℕ → Type 0
+  Part true u w = (w ≡ u) × (length u ≤ p .bound)
+  Part false u w = (1 ≤ length u) × (p .bound < length w)
+
+  -- At its end the line is answered.
+  part-ended : (b : Bool) (u w : List ℕ) (m : M) → Part b u w
+      → (cond b (p .says m u) (p .says-long m) ≡ lineSays p m w) × (cond b (p .becomes m u) (p .becomes-long m) ≡ lineBecomes p m w)
+  part-ended true u w m h = rw (h .0, le-leb (length u) (p .bound) (h .1)) (refl, refl)
+  part-ended false u w m h = rw (lt-leb (length w) (p .bound) (h .1)) (refl, refl)
+
+  -- One character more, in the piece or in the next.
+  part-more : (b : Bool) (u w : List ℕ) (c : ℕ) → Part b u w → length u < p .bound → Part b (u ++ c ∷ []) (w ++ c ∷ [])
+  part-more true u w c h k = (ap (λ (l : List ℕ). l ++ c ∷ []) (h .0), omega (arith, length-append u (c ∷ [])))
+  part-more false u w c h k = (omega (arith, length-append u (c ∷ [])), omega (arith, h .1, length-append w (c ∷ [])))
+
+  part-on : (b : Bool) (u w : List ℕ) (c : ℕ) → Part b u w → p .bound ≤ length u → Part false (c ∷ []) (w ++ c ∷ [])
+  part-on true u w c h k = (omega arith, omega (arith, ap length (h .0), length-append w (c ∷ [])))
+  part-on false u w c h k = (omega arith, omega (arith, h .1, length-append w (c ∷ [])))
+
+  module _ {X : Type 0} (k : Measure M X) where
+    -- What some pieces come to.
+    abbrev ofPieces : M → List Piece → X
+    ofPieces m xs = k .of (overPieces p .says) (overPieces p .becomes) m xs
+
+    -- What some lines come to.
+    abbrev ofLines : M → List (List ℕ) → X
+    ofLines m ls = k .of (lineSays p) (lineBecomes p) m ls
+
+    -- A piece that ends its line, and what comes behind it.
+    ended-comes : (b : Bool) (u w : List ℕ) (e : End) (m : M) (xs : List Piece) (ls : List (List ℕ)) → Part b u w → endsLine e ≡ true
+        → ((n : M) → ofPieces n xs ≡ ofLines n ls) → ofPieces m (piece b u e ∷ xs) ≡ ofLines m (w ∷ ls)
+    ended-comes b u w e m xs ls h i f =
+        let said : PieceSaid p m u b e (cond b (p .says m u) (p .says-long m)) (cond b (p .becomes m u) (p .becomes-long m)) = piece-ended p m u b e i in
+        same-cons k (overPieces p .says) (overPieces p .becomes) (lineSays p) (lineBecomes p) m (piece b u e) w xs ls
+        (said .0 ∙ part-ended b u w m h .0) (said .1 ∙ part-ended b u w m h .1) f
+
+    -- A piece of a line that goes on.
+    on-comes : (b : Bool) (u : List ℕ) (m : M) (xs : List Piece) → ofPieces m (piece b u On ∷ xs) ≡ ofPieces m xs
+    on-comes b u m xs = k .of-cons (overPieces p .says) (overPieces p .becomes) m (piece b u On) xs ∙ k .add-none (ofPieces m xs)
+
+    -- The end of the input.
+    none-comes : (m : M) → ofPieces m [] ≡ ofLines m []
+    none-comes = same-none k (overPieces p .says) (overPieces p .becomes) (lineSays p) (lineBecomes p)
+
+    last-comes : (b : Bool) (u w : List ℕ) (m : M) → Part b u w → ofPieces m (lastOf b u) ≡ ofLines m (lastLine w)
+    last-comes true [] [] m h = none-comes m
+    last-comes true [] (d ∷ w) m h = absurd (omega (arith, ap length (h .0)))
+    last-comes true (c ∷ u) [] m h = absurd (omega (arith, ap length (h .0)))
+    last-comes true (c ∷ u) (d ∷ w) m h = ended-comes true (c ∷ u) (d ∷ w) Last m [] [] h refl none-comes
+    last-comes false [] w m h = absurd (omega (arith, h .0))
+    last-comes false (c ∷ u) [] m h = absurd (omega (arith, h .1))
+    last-comes false (c ∷ u) (d ∷ w) m h = ended-comes false (c ∷ u) (d ∷ w) Last m [] [] h refl none-comes
+
+    part-comes : (m : M) (b : Bool) (u w s : List ℕ) → Part b u w → ofPieces m (cutFrom (p .bound) b u s) ≡ ofLines m (linesFrom w s)
+    unfolding cutFrom linesFrom
+    part-comes m b u w [] h = last-comes b u w m h
+    part-comes m b u w (c ∷ s) h =
+        by-character (p .bound) u c
+        (λ e.
+        ap (ofPieces m) (cut-newline (p .bound) b u c s e)
+        ∙ ended-comes b u w Newline m (cutFrom (p .bound) true [] s) (linesFrom [] s) h refl (λ n. part-comes n true [] [] s (refl, omega arith))
+        ∙ ap (ofLines m) (sym (lines-newline w c s e)))
+        (λ e i.
+        ap (ofPieces m) (cut-more (p .bound) b u c s e i)
+        ∙ part-comes m b (u ++ c ∷ []) (w ++ c ∷ []) s (part-more b u w c h i)
+        ∙ ap (ofLines m) (sym (lines-other w c s e)))
+        (λ e i.
+        ap (ofPieces m) (cut-on (p .bound) b u c s e i)
+        ∙ on-comes b u m (cutFrom (p .bound) false (c ∷ []) s)
+        ∙ part-comes m false (c ∷ []) (w ++ c ∷ []) s (part-on b u w c h i)
+        ∙ ap (ofLines m) (sym (lines-other w c s e)))
+
+    -- The pieces of an input come to what its lines come to.
+    pieces-come : (m : M) (input : List ℕ) → ofPieces m (piecesOf (p .bound) input) ≡ ofLines m (linesOf input)
+    pieces-come m input = part-comes m true [] [] input (refl, omega arith) ∙ ap (ofLines m) (lines-from [] input)
+
 -- A line program's numbers fit: a line may have a character, and every answer is at most as long as it says.
 pub record LineFits {M : Type 0} (p : LineProgram M) : Type 0 where
   pub positive : 1 ≤ p .bound
@@ -226,7 +228,14 @@ module _ {M : Type 0} (p : LineProgram M) (fits : LineFits p) where
   pub pieces-fit : Fits (overPieces p)
   pieces-fit = record { positive = fits .positive; answer-most = λ m x h. piece-most m (x .begins) (x .text) (x .end) h }
 
-  -- However an input is divided, a program that answers lines says to its parts, and then of its last piece, what it says to the lines of the whole.
-  pub stream-lines : (room n : ℕ) (m : M) (parts : List (List ℕ)) → p .most ≤ room → length (joined parts) < n
-      → (let t : Turn M = turnsOf (overPieces p) room true m true [] (parts ++ replicate n []) in t .said ++ lastSays (overPieces p) (t .after) (t .begins) (t .left) ≡ outputOf p m (joined parts))
-  stream-lines room n m parts r h = stream-whole (overPieces p) pieces-fit room n m parts r h ∙ pieces-lines p m (joined parts)
+  module _ (room n : ℕ) (m : M) (parts : List (List ℕ)) (r : p .most ≤ room) (h : length (joined parts) < n) where
+    -- However an input is divided, a program that answers lines says to its parts, and then of its last piece, what it says to the lines of the whole.
+    pub stream-lines : let t : Turn M = turnsOf (overPieces p) room true m true [] (parts ++ replicate n []) in
+        t .said ++ lastSays (overPieces p) (t .after) (t .begins) (t .left) ≡ outputOf p m (joined parts)
+    unfolding outputFrom outputOf
+    stream-lines = stream-whole (overPieces p) pieces-fit room n m parts r h ∙ pieces-come p whatIsSaid m (joined parts)
+
+    -- And it has become what it becomes over those lines.
+    pub stream-reached : let t : Turn M = turnsOf (overPieces p) room true m true [] (parts ++ replicate n []) in
+        lastBecomes (overPieces p) (t .after) (t .begins) (t .left) ≡ reached (lineBecomes p) m (linesOf (joined parts))
+    stream-reached = stream-comes (overPieces p) pieces-fit whatIsReached room n m parts r h ∙ pieces-come p whatIsReached m (joined parts)

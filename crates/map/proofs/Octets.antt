@@ -1,13 +1,13 @@
 -- Where the words of an area's blocks stand in the store, and how many octets they are. What a word's size is stays in this crate.
 -- Assumes nothing.
-use mathlib.Core.Bool.{true}
+use mathlib.Core.Bool.{Bool, true, false, false≢true, _||_}
 use mathlib.Core.Logic.{_⊎_, inl, inr, ⊎-elim}
 use mathlib.Core.Path.{_≡_, refl, sym, ap, _∙_}
 use mathlib.Core.List.{List}
 use Prim.Native.Nat.{ℕ, _+_, _*_, _-_, _^_, _≤_, _<_}
 use native.Mathlib.Omega.{arith}
 use lib.ListN.{length}
-use borrow.Author.Tests.{leb-true}
+use borrow.Author.Tests.{leb-true, leb-false}
 use Rattle.octets.specs.Copy.{laid, between}
 use Rattle.octets.proofs.Between.{between-most}
 use Rattle.octets.proofs.Laid.{laid-read}
@@ -15,7 +15,7 @@ use Rattle.map.specs.declared.Area.{Area}
 use Rattle.map.specs.declared.Found.the-variants.{At}
 use Rattle.map.specs.declared.Profile.{Profile}
 use Rattle.map.specs.Place.{wordOctets, dumpWords, dumpOctets, used, findIn, inside, octetAt, octetsOf, storedAt, Off}
-use Rattle.map.specs.Sound.{sound, areaSound, apart}
+use Rattle.map.specs.Sound.{sound, areaSound, ahead, apart}
 use Rattle.laws.proofs.Tests.{halves}
 use Rattle.map.proofs.Soundness.{area-facts, apart-facts}
 use Rattle.map.proofs.Finding.{found-apart}
@@ -68,10 +68,31 @@ pub found-octets-apart :
 found-octets-apart p octets i j a b s v t w h ha hb d =
     apart-octets a b s v t w (found-apart p octets i j a b h ha hb d)
 
+neither : (x y : Bool) → x || y ≡ false → (x ≡ false) × (y ≡ false)
+neither true y h = absurd (false≢true (sym h))
+neither false y h = (refl, h)
+
+-- Areas that share a store word: the octets of each begin before those of the other end.
+pub meet-octets :
+    (a b : Area)
+    → apart a b ≡ false
+    → (octetsOf a (a .first) < octetsOf b (b .first + b .length)) × (octetsOf b (b .first) < octetsOf a (a .first + a .length))
+unfolding apart octetsOf wordOctets
+meet-octets a b h =
+    let n = neither (ahead a b) (ahead b a) h in
+    let l : b .first < a .first + a .length = leb-false _ _ (n .0) in
+    let m : a .first < b .first + b .length = leb-false _ _ (n .1) in
+    (omega arith, omega arith)
+
 -- Words are so many octets each.
 pub octets-words : (a : Area) (words : ℕ) → octetsOf a words ≡ words * wordOctets
 unfolding octetsOf
 octets-words a words = refl
+
+-- Fewer words are fewer octets.
+pub octets-below : (a : Area) (m n : ℕ) → m < n → octetsOf a m < octetsOf a n
+unfolding octetsOf wordOctets
+octets-below a m n h = omega arith
 
 -- Where the words of a block end has 64 bits, whatever the area and the block.
 pub octets-fit :

@@ -1,6 +1,6 @@
 // Which area has a memory ID, whether a block lies inside an area, and where its words stand in the store.
 ghost use mathlib.Core.Path.{_≡_};
-ghost use Prim.Native.Nat.{min};
+ghost use Prim.Native.Nat.{_+_, min};
 ghost use Rattle.map.specs.Place.{areasMost, wordOctets, findIn, used, inside, octetAt, octetsOf, storedAt};
 use super::AREAS;
 use super::Area;
@@ -67,6 +67,20 @@ pub fn octet_at(area: Area, address: u32) -> usize
         return octets_in(area, area.first as u64) as usize;
     }
     octets_in(area, end_of(area.first, address - area.start)) as usize
+}
+
+// The octet of the store at which an area's words begin.
+pub fn store_start(area: Area) -> u64
+    ensures { λ r. ⌜ r ≡ octetsOf area (area .first) ⌝ }
+{
+    octets_in(area, area.first as u64)
+}
+
+// The octet of the store behind an area's words.
+pub fn store_end(area: Area) -> u64
+    ensures { λ r. ⌜ r ≡ octetsOf area (area .first + area .length) ⌝ }
+{
+    octets_in(area, end_of(area.first, area.length))
 }
 
 // The octets in the store of so many words of an area from an address on.

@@ -9,7 +9,7 @@ use super::AREAS;
 use super::Area;
 use super::Profile;
 use super::end_of;
-use super::octets_in;
+use super::place::store_end;
 
 // The most octets of a store.
 const STORE_MOST: usize = 65536;
@@ -38,7 +38,7 @@ fn is_area_sound(octets: usize, area: Area) -> bool
     if end_of(area.start, length) > ADDRESSES {
         return false;
     }
-    octets_in(area, end_of(area.first, length)) <= octets as u64
+    store_end(area) <= octets as u64
 }
 
 // Whether the store words of an area all come before those of another.
@@ -49,7 +49,7 @@ fn is_ahead(a: Area, b: Area) -> bool
 }
 
 // Whether two areas share no store word.
-fn lie_apart(a: Area, b: Area) -> bool
+pub fn lie_apart(a: Area, b: Area) -> bool
     ensures { λ r. ⌜ r ≡ apart a b ⌝ }
 {
     is_ahead(a, b) || is_ahead(b, a)

@@ -27,7 +27,7 @@ pub fn serve(
     ensures { λ _. ⌜ now (octets .exit) ≡ laid (now (octets .entry)) 0 (givenIn (now (line .entry))) ⌝ }
 {
     let digits = form::digits(line);
-    characters::text::decode(digits, octets);
+    characters::text::decode(digits, octets, 0);
     let given = lines::front(octets, digits.len() / 2);
     act(form::asked(line, given), s, given, store, out, text, at)
 }

@@ -40,6 +40,14 @@ pub fn put(text: &mut [u8], at: usize, c: u8) -> usize
     behind(text.len(), at, 1)
 }
 
+// Adds some characters.
+pub fn text(text: &mut [u8], at: usize, all: &[u8]) -> usize
+    ensures { λ r. ⌜ SaysBy (now (all .entry)) at text r ⌝ }
+{
+    octets::copy::put(text, at, all);
+    behind(text.len(), at, all.len())
+}
+
 // Adds some octets, two digits each.
 pub fn octets(text: &mut [u8], at: usize, all: &[u8]) -> usize
     ensures { λ r. ⌜ SaysBy (textOf (now (all .entry))) at text r ⌝ }

@@ -41,7 +41,7 @@ pub fn run(input: &mut dyn Read, output: &mut dyn Write) -> io::Result<()> {
 }
 
 /// One frame a line; a frame's length field says where the next begins.
-fn write_frames(mut frames: &[u8], text: &mut Vec<u8>) {
+pub fn write_frames(mut frames: &[u8], text: &mut Vec<u8>) {
     while let [_, _, _, _, upper, lower, ..] = frames {
         let length = usize::from(u16::from_be_bytes([*upper, *lower])) + 7;
         let (frame, rest) = frames.split_at_checked(length).unwrap_or((frames, &[]));

@@ -2,9 +2,47 @@
 //! standard output, and a quiet end when the output is closed.
 
 use std::env;
+use std::ffi::OsStr;
 use std::fs::File;
 use std::io::{self, ErrorKind, Read, Write};
+use std::path::PathBuf;
 use std::process::ExitCode;
+
+/// Stands for standard input where a file is named.
+pub const STANDARD_INPUT: &str = "-";
+
+/// A file or standard input, which says its name where it cannot be read.
+pub struct Input {
+    name: String,
+    stream: Box<dyn Read>,
+}
+
+impl Input {
+    /// Opens the file of that name; a directory is no file.
+    pub fn open(path: &OsStr) -> Result<Input, String> {
+        if path == STANDARD_INPUT {
+            return Ok(Input { name: "standard input".into(), stream: Box::new(io::stdin().lock()) });
+        }
+        let name = path.to_string_lossy().into_owned();
+        let opened = File::open(path).and_then(|file| Ok((file.metadata()?.is_dir(), file)));
+        match opened {
+            Ok((false, file)) => Ok(Input { name, stream: Box::new(file) }),
+            Ok((true, _)) => Err(format!("{name}: it is a directory")),
+            Err(error) => Err(format!("{name}: {error}")),
+        }
+    }
+}
+
+impl Read for Input {
+    fn read(&mut self, buffer: &mut [u8]) -> io::Result<usize> {
+        self.stream.read(buffer).map_err(|error| io::Error::new(error.kind(), format!("{}: {error}", self.name)))
+    }
+}
+
+/// Whether an argument is written as an option.
+pub fn is_option(argument: &OsStr) -> bool {
+    argument != STANDARD_INPUT && argument.as_encoded_bytes().starts_with(b"-")
+}
 
 /// Runs a stream program over the input its arguments name.
 pub fn run(serve: fn(&mut dyn Read, &mut dyn Write) -> io::Result<()>) -> ExitCode {
@@ -42,6 +80,17 @@ pub fn seed_and_count() -> Option<(u64, u64)> {
         env::args_os().skip(1).map(|argument| argument.to_string_lossy().into_owned()).collect();
     match arguments.as_slice() {
         [seed, count] => Some((number(seed)?, number(count)?)),
+        _ => None,
+    }
+}
+
+/// A seed, how many to make, and the folder that they go to.
+pub fn seed_count_and_folder() -> Option<(u64, u64, PathBuf)> {
+    let arguments: Vec<_> = env::args_os().skip(1).collect();
+    match arguments.as_slice() {
+        [seed, count, folder] => {
+            Some((number(&seed.to_string_lossy())?, number(&count.to_string_lossy())?, folder.into()))
+        }
         _ => None,
     }
 }

@@ -59,8 +59,8 @@ returns-3 c =
     let a = r .before .before .before .before .before .before .args in
     read-behind (a .have) (now (a .input)) (r .read .last .1 .0) _ (r .before .before .before .if1 .left) (part-size r) tt
 
-add-t8 : tie.Need-add-t8
-add-t8 c = search needs
+add-t9 : tie.Need-add-t9
+add-t9 c = search needs
 
 same-length-3 : tie.Need-same-length-3
 same-length-3 c = search needs
@@ -87,6 +87,6 @@ read-spec =
     count-requires
     same-length-2
     returns-3
-    add-t8
+    add-t9
     same-length-3
     returns-4)

@@ -3,6 +3,8 @@
 
 #![allow(dead_code)]
 
+pub mod packing;
+
 use std::env;
 use std::io::{self, BufRead, BufReader, Read, Write};
 use std::process::{Command, Stdio};

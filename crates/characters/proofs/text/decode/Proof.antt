@@ -15,10 +15,10 @@ use Rattle.characters.proofs.text.decode.Statement.{statement}
 use Rattle.characters.proofs.text.decode.Tie as tie
 
 abbrev Inv-loop : tie.InvT-loop
-Inv-loop text octets₀ count i₀ octets i = (i ≤ count) × (count ≡ length text / 2) × (length octets ≡ length octets₀) × (laid octets i (octetsIn (drop (2 * i) text)) ≡ laid octets₀ 0 (octetsIn text))
+Inv-loop text octets₀ at count place₀ i₀ octets place i = (i ≤ count) × (count ≡ length text / 2) × (length octets ≡ length octets₀) × (laid octets place (octetsIn (drop (2 * i) text)) ≡ laid octets₀ at (octetsIn text))
 
 abbrev μ-loop : tie.MeasureT-loop
-μ-loop text octets₀ count i₀ octets i = count - i
+μ-loop text octets₀ at count place₀ i₀ octets place i = count - i
 
 loop-holds : tie.Need-loop-holds Inv-loop μ-loop
 loop-holds c = (search needs, refl, refl, refl)
@@ -30,7 +30,7 @@ returns : tie.Need-returns Inv-loop μ-loop
 returns c =
     let l = c .before .before .loop in
     let a = c .before .before .before .before .before .args in
-    sym (laid-past (l .octets) (l .i) (octetsIn (drop (2 * l .i) (now (a .text)))) (c .if1 .taken)) ∙ l .inv .3
+    sym (laid-past (l .octets) (l .place) (octetsIn (drop (2 * l .i) (now (a .text)))) (c .if1 .taken)) ∙ l .inv .3
 
 mul-value : tie.Need-mul-value Inv-loop μ-loop
 mul-value c = search needs
@@ -62,6 +62,9 @@ add-octets c = search needs
 slice-write-octets : tie.Need-slice-write-octets Inv-loop μ-loop
 slice-write-octets c = search needs
 
+add-place : tie.Need-add-place Inv-loop μ-loop
+add-place c = search needs
+
 add-i : tie.Need-add-i Inv-loop μ-loop
 add-i c = search needs
 
@@ -76,8 +79,8 @@ loop-again c =
     let h : 2 * l .i + 1 < length s = omega (arith, l .inv .1, e .before .loop-test .taken) in (
       omega (arith, e .before .loop-test .taken),
       l .inv .1,
-      length-set (l .octets) (l .i) _ ∙ l .inv .2,
-      laid-octets-next (l .octets) s (l .i) (c .before .before .value .result) (c .value2 .result) h (c .before .before .value .ensures) (c .value2 .ensures) ∙ l .inv .3,
+      length-set (l .octets) (l .place) _ ∙ l .inv .2,
+      laid-octets-next (l .octets) s (l .place) (l .i) (c .before .before .value .result) (c .value2 .result) h (c .before .before .value .ensures) (c .value2 .ensures) ∙ l .inv .3,
     )
 
 same-length-2 : tie.Need-same-length-2 Inv-loop μ-loop
@@ -87,7 +90,7 @@ returns-2 : tie.Need-returns-2 Inv-loop μ-loop
 returns-2 c =
     let l = c .before .loop in
     let s : List ℕ = now (c .before .before .before .before .args .text) in
-    sym (laid-octets-end (l .octets) (l .i) s (omega (arith, length-drop (2 * l .i) s, l .inv .1, c .loop-test .left))) ∙ l .inv .3
+    sym (laid-octets-end (l .octets) (l .place) (l .i) s (omega (arith, length-drop (2 * l .i) s, l .inv .1, c .loop-test .left))) ∙ l .inv .3
 
 pub decode-spec : {M : Type 1} → statement M
 decode-spec =
@@ -108,6 +111,7 @@ decode-spec =
     mul-octets
     add-octets
     slice-write-octets
+    add-place
     add-i
     loop-less
     loop-again

@@ -27,23 +27,19 @@ returns-2 c =
     let h : 2 ^ 32 < a .start + a .length = omega arith in
     rw (le-leb _ _ (has-words (c .before .before)), lt-leb _ _ h)
 
-end-of-requires-2 : tie.Need-end-of-requires-2
-end-of-requires-2 c κs = search needs
-
-octets-in-requires : tie.Need-octets-in-requires
-octets-in-requires c κs = search needs
+store-end-requires : tie.Need-store-end-requires
+store-end-requires c κs = search needs
 
 returns-3 : tie.Need-returns-3
 unfolding areaSound
 returns-3 c =
     rw (
-      le-leb _ _ (has-words (c .before .before .before .before)),
-      le-leb _ _ (below-top (c .before .before)),
-      c .octets-in .ensures,
-      c .before .end-of2 .ensures,
+      le-leb _ _ (has-words (c .before .before .before)),
+      le-leb _ _ (below-top (c .before)),
+      c .store-end .ensures,
     )
 
 pub is-area-sound-spec : {M : Type 1} → statement M
 is-area-sound-spec =
     tie.close
-    (tie.spec returns end-of-requires returns-2 end-of-requires-2 octets-in-requires returns-3)
+    (tie.spec returns end-of-requires returns-2 store-end-requires returns-3)

@@ -1,0 +1,4 @@
+pub mod Firsts
+pub mod Steps
+pub mod Soundness
+pub mod Sharing

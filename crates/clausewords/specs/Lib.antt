@@ -1,0 +1,2 @@
+pub mod Clausewords
+pub mod Examples

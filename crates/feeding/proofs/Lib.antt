@@ -1,0 +1,2 @@
+pub mod Streaming
+pub mod Lined

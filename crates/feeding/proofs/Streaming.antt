@@ -1,0 +1,56 @@
+-- The programs over an input that comes in parts: their numbers fit, and however the input is divided, what is said is the output on the whole.
+-- Assumes nothing.
+use mathlib.Core.Path.{_≡_, refl}
+use mathlib.Core.Bool.{true}
+use mathlib.Core.List.{List, [], _++_}
+use Prim.Native.Nat.{ℕ, _≤_, _<_}
+use native.Mathlib.Omega.{arith}
+use lib.ListN.{length, replicate}
+use Rattle.characters.specs.Digits.{textOf}
+use Rattle.laws.specs.Fold.{joined}
+use Rattle.lines.specs.Turn.{Turn, lastSays, lastBecomes, turnsOf}
+use Rattle.lines.specs.Feed.{outputOf}
+use Rattle.lines.proofs.Turns.{Fits}
+use Rattle.lines.proofs.Whole.{LineFits, pieces-fit, stream-lines, stream-reached}
+use Rattle.hexline.specs.Whole.{answerRoom}
+use Rattle.hexline.proofs.Serving.{line-answer-most}
+use Rattle.tasks.specs.declared.Task.{Task}
+use Rattle.tasks.specs.declared.Task.the-variants.{Line, Unit, Pack}
+use Rattle.tasks.specs.declared.Desk.{Desk}
+use Rattle.tasks.specs.Place.{Place, profileAt, stationAt}
+use Rattle.tasks.specs.Tasks.{taskSays, taskLongSays, taskProgram}
+use Rattle.tasks.proofs.Packing.{pack-most, long-most}
+use Rattle.feeding.specs.Feed.{pieceProgram}
+use Rattle.feeding.specs.Output.{unitFirst, unitBehind}
+
+-- No answer has more than 16,384 characters.
+answer-most : (t : Task) (m : Place) (line : List ℕ) → length (taskSays t m line) ≤ answerRoom
+answer-most Line m line = line-answer-most (profileAt m) (stationAt m) line
+answer-most Unit m line = omega arith
+answer-most Pack m line = pack-most m line
+
+answer-long-most : (t : Task) (d : Desk) → length (taskLongSays t d) ≤ answerRoom
+unfolding textOf
+answer-long-most Line d = omega arith
+answer-long-most Unit d = omega arith
+answer-long-most Pack d = long-most d
+
+module _ (t : Task) where
+  task-fits : LineFits (taskProgram t)
+  task-fits = record { positive = omega arith; line-most = λ m line h. answer-most t m line; long-most = λ m. answer-long-most t (m .desk) }
+
+  pub pieces-task : Fits (pieceProgram t)
+  pieces-task = pieces-fit (taskProgram t) task-fits
+
+  -- However an input is divided: what is said of its parts in turn, and then in turns without more input until no whole piece is left, and then of the last piece, is the output on the whole.
+  pub stream-whole : (room n : ℕ) (m : Place) (parts : List (List ℕ)) → answerRoom ≤ room → length (joined parts) < n
+      → (let s : Turn Place = turnsOf (pieceProgram t) room true m true [] (parts ++ replicate n []) in
+      s .said ++ lastSays (pieceProgram t) (s .after) (s .begins) (s .left) ≡ outputOf (taskProgram t) m (joined parts))
+  stream-whole room n m parts r h = stream-lines (taskProgram t) task-fits room n m parts r h
+
+-- However a unit file is divided, the reader of unit files is behind its parts where it is behind the whole.
+pub stream-unit : (room n : ℕ) (parts : List (List ℕ)) → answerRoom ≤ room → length (joined parts) < n
+    → (let s : Turn Place = turnsOf (pieceProgram Unit) room true unitFirst true [] (parts ++ replicate n []) in
+    lastBecomes (pieceProgram Unit) (s .after) (s .begins) (s .left) ≡ unitBehind (joined parts))
+unfolding unitBehind
+stream-unit room n parts r h = stream-reached (taskProgram Unit) (task-fits Unit) room n unitFirst parts r h

@@ -1,0 +1,63 @@
+-- The place of the first character that is no digit, and why a line is refused.
+-- Assumes nothing.
+use mathlib.Core.Path.{_≡_, refl, sym, ap, _∙_}
+use mathlib.Core.Bool.{Bool, true, false, _&&_}
+use mathlib.Core.List.{List, [], _∷_}
+use Prim.Native.Nat.{ℕ, suc, _+_, _≤_, _<_}
+use native.Mathlib.Numerals.{add-one}
+use native.Mathlib.Omega.{arith}
+use lib.ListN.{length, getD, drop}
+use lib.Seq.{drop-cons, drop-length}
+use lib.Dec.{ltb}
+use borrow.Author.Tests.{lt-ltb, le-ltb}
+use Rattle.laws.proofs.Tests.{by-test}
+use Rattle.characters.specs.Digits.{valueOf, isDigit, allDigits}
+use Rattle.packline.specs.Record.{badPlace, haltOf, haltOdd, haltCharacter}
+use Rattle.packline.specs.declared.Halt.{Halt}
+
+next : (s : List ℕ) (i : ℕ) → i < length s → drop i s ≡ getD s i 0 ∷ drop (i + 1) s
+next s i h = drop-cons s i 0 h ∙ ap (λ (n : ℕ). getD s i 0 ∷ drop n s) (sym (add-one i))
+
+-- Behind a digit the place is one more, and at another character it is found.
+pub place-pass : (s : List ℕ) (i : ℕ) → i < length s → valueOf (getD s i 0) < 16 → i + 1 + badPlace (drop (i + 1) s) ≡ i + badPlace (drop i s)
+unfolding badPlace
+place-pass s i h small =
+    let e : badPlace (drop i s) ≡ suc (badPlace (drop (i + 1) s)) = ap badPlace (next s i h) ∙ (rw (lt-ltb (valueOf (getD s i 0)) 16 small) refl) in
+    omega (arith, e)
+
+pub place-found : (s : List ℕ) (i : ℕ) → i < length s → 16 ≤ valueOf (getD s i 0) → badPlace (drop i s) ≡ 0
+unfolding badPlace
+place-found s i h large = ap badPlace (next s i h) ∙ (rw (le-ltb (valueOf (getD s i 0)) 16 large) refl)
+
+pub place-end : (s : List ℕ) → badPlace (drop (length s) s) ≡ 0
+unfolding badPlace
+place-end s = ap badPlace (drop-length s)
+
+place-digit : (c : ℕ) (s : List ℕ) → isDigit c ≡ true → badPlace (c ∷ s) ≡ suc (badPlace s)
+unfolding badPlace
+place-digit c s t = rw t refl
+
+place-other : (c : ℕ) (s : List ℕ) → isDigit c ≡ false → badPlace (c ∷ s) ≡ 0
+unfolding badPlace
+place-other c s e = rw e refl
+
+-- All are digits just where no such place is found.
+pub all-digits : (s : List ℕ) → length s ≤ badPlace s → allDigits s ≡ true
+unfolding allDigits
+all-digits [] h = refl
+all-digits (c ∷ s) h =
+    by-test (isDigit c) (λ t. rw t (all-digits s (omega (arith, place-digit c s t)))) (λ e. absurd (omega (arith, place-other c s e)))
+
+pub some-other : (s : List ℕ) → badPlace s < length s → allDigits s ≡ false
+unfolding allDigits
+some-other [] h = absurd (omega arith)
+some-other (c ∷ s) h =
+    by-test (isDigit c) (λ t. rw t (some-other s (omega (arith, place-digit c s t)))) (λ e. rw e refl)
+
+pub halt-odd : (s : List ℕ) (at : ℕ) → at ≡ badPlace s → length s ≤ at → haltOdd ≡ haltOf s
+unfolding haltOf
+halt-odd s at e h = rw (all-digits s (omega (arith, e))) refl
+
+pub halt-character : (s : List ℕ) (at : ℕ) → at ≡ badPlace s → at < length s → _≡_ {A = Halt} (record { kind = 2; place = at + 1; octet = getD s at 0 }) (haltOf s)
+unfolding haltOf
+halt-character s at e h = rw (some-other s (omega (arith, e)), e) refl

@@ -1,0 +1,50 @@
+-- docs/UNITS.md, "`pack UNIT [PACKETS]`": the record of a packet line, and why a line is refused by 70.
+use mathlib.Core.Bool.{cond}
+use mathlib.Core.List.{List, [], _∷_, _++_}
+use Prim.Native.Nat.{ℕ, suc, _+_}
+use lib.Dec.{eqb}
+use Rattle.octets.specs.Numbers.{octet}
+use Rattle.characters.specs.Digits.{isDigit, allDigits, octetsIn}
+use Rattle.lines.specs.Lines.{newline}
+use Rattle.words.specs.Ascii.{ascii}
+use Rattle.numerals.specs.Numbers.{decimalOf}
+use Rattle.saying.specs.Text.{lineOf}
+use Rattle.packetline.specs.Packet.{isPacket, linesOf}
+use Rattle.map.specs.declared.Profile.{Profile}
+use Rattle.terminal.specs.Outcome.{framesDue}
+use Rattle.hexline.specs.Line.{Station, packetInput}
+use Rattle.packline.specs.declared.Halt.{Halt}
+
+-- The record of a packet: the packet in upper case, its frames with time zero, one a line, and an empty line.
+unfoldable pub packetRecord : Profile → Station → List ℕ → List ℕ
+packetRecord p m packet = lineOf packet ++ (linesOf (framesDue (packetInput p m packet)) ++ newline ∷ [])
+
+-- The record of a line: that of its packet, and nothing where it is no packet line.
+unfoldable pub lineRecord : Profile → Station → List ℕ → List ℕ
+lineRecord p m line = cond (isPacket line) (packetRecord p m (octetsIn line)) []
+
+-- Why a program stops at a line: it does not; the line is too long; a character is no digit; the digits are odd.
+abbrev pub goesOn : Halt
+goesOn = record { kind = 0; place = 0; octet = 0 }
+
+abbrev pub haltLong : Halt
+haltLong = record { kind = 1; place = 0; octet = 0 }
+
+abbrev pub haltOdd : Halt
+haltOdd = record { kind = 3; place = 0; octet = 0 }
+
+-- The place of the first character that is no digit, from 0.
+unfoldable pub badPlace : List ℕ → ℕ
+badPlace [] = 0
+badPlace (c ∷ rest) = cond (isDigit c) (suc (badPlace rest)) 0
+
+abbrev pub haltCharacter : List ℕ → Halt
+haltCharacter line = record { kind = 2; place = badPlace line + 1; octet = octet line (badPlace line) }
+
+-- Why a line that is no packet line is refused, where it is not too long: its first character that is no digit, from 1, else its odd digits.
+unfoldable pub haltOf : List ℕ → Halt
+haltOf line = cond (allDigits line) haltOdd (haltCharacter line)
+
+-- What is said of it: `refused 70` and the number of the line.
+abbrev pub refusedAt : ℕ → List ℕ
+refusedAt number = ascii "refused 70 " ++ (decimalOf number ++ newline ∷ [])

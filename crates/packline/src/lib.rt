@@ -1,0 +1,120 @@
+// `pack`: the record of a packet line, and why a line is refused by 70.
+use decide::State;
+use hexline::Written;
+use map::Profile;
+ghost use mathlib.Core.Path.{_≡_};
+ghost use Prim.Native.Nat.{_≤_};
+ghost use lib.ListN.{length};
+ghost use Rattle.saying.specs.Text.{SaysBy};
+ghost use Rattle.hexline.specs.Line.{packetAfter, lineAfter};
+ghost use Rattle.hexline.specs.Said.{SaidBy};
+ghost use Rattle.packline.specs.Record.{packetRecord, lineRecord, badPlace, haltOf, refusedAt};
+
+// How many octets a packet line has at the most.
+const PACKET_ROOM: usize = 2048;
+
+// Why a program stops at a line.
+pub const GOES_ON: u8 = 0;
+
+pub const LONG: u8 = 1;
+
+pub const CHARACTER: u8 = 2;
+
+pub const ODD: u8 = 3;
+
+// Why a program stops at a line, and for a character its place, from 1, and its octet.
+pub struct Halt {
+    pub kind: u8,
+    pub place: usize,
+    pub octet: u8,
+}
+
+// The record of a packet: the packet, its frames one a line, and an empty line.
+fn serve(
+    profile: Profile,
+    state: State,
+    packet: &[u8],
+    store: &mut [u8],
+    out: &mut [u8],
+    text: &mut [u8],
+    at: usize,
+) -> Written
+    ensures { λ r. ⌜ SaidBy (λ m. packetRecord profile m (now (packet .entry))) (λ m. packetAfter profile m (now (packet .entry))) state at store out text r ⌝ }
+{
+    let first = saying::line(text, at, packet);
+    let outcome = terminal::answer(profile, state, [0; 6], packet, store, out);
+    let written = outcome.written;
+    let end = packetline::put_frames(&out[..written], text, first);
+    let last = saying::end(text, end);
+    let next = outcome.state;
+    Written {
+        at: last,
+        state: next,
+    }
+}
+
+// The record of a line into a text from a place on; nothing where it is no packet line. What would stand past the text's end is dropped.
+pub fn record(
+    profile: Profile,
+    state: State,
+    line: &[u8],
+    store: &mut [u8],
+    out: &mut [u8],
+    text: &mut [u8],
+    at: usize,
+) -> Written
+    ensures { λ r. ⌜ SaidBy (λ m. lineRecord profile m (now (line .entry))) (λ m. lineAfter profile m (now (line .entry))) state at store out text r ⌝ }
+{
+    if !packetline::is_packet(line) {
+        let place = saying::kept(text, at);
+        return Written { at: place, state };
+    }
+    let mut packet = [0u8; PACKET_ROOM];
+    characters::text::decode(line, &mut packet, 0);
+    let count = line.len() / 2;
+    serve(profile, state, &packet[..count], store, out, text, at)
+}
+
+// The place of the first character of a line that is no digit, from 0; past the last one where all are digits.
+fn bad_place(line: &[u8]) -> usize
+    ensures { λ r. ⌜ r ≡ badPlace (now (line .entry)) ⌝ }
+    ensures { λ r. ⌜ r ≤ length (now (line .entry)) ⌝ }
+{
+    let mut i = 0;
+    while i < line.len() {
+        let v = characters::value(line[i]);
+        if 16 <= v {
+            return i;
+        }
+        i += 1;
+    }
+    i
+}
+
+// Why a line that is no packet line is refused, where it is not too long.
+pub fn why(line: &[u8]) -> Halt
+    ensures { λ r. ⌜ r ≡ haltOf (now (line .entry)) ⌝ }
+{
+    let at = bad_place(line);
+    if line.len() <= at {
+        return Halt {
+            kind: ODD,
+            place: 0,
+            octet: 0,
+        };
+    }
+    Halt {
+        kind: CHARACTER,
+        place: at + 1,
+        octet: line[at],
+    }
+}
+
+// Adds `refused 70` and the number of the line.
+pub fn put_refused(number: u64, text: &mut [u8], at: usize) -> usize
+    ensures { λ r. ⌜ SaysBy (refusedAt number) at text r ⌝ }
+{
+    let first = saying::text(text, at, b"refused 70 ");
+    let behind = numerals::decimal(text, first, number);
+    saying::end(text, behind)
+}

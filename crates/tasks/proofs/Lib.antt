@@ -1,0 +1,3 @@
+pub mod Doing
+pub mod Packing
+pub mod Units

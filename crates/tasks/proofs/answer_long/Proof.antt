@@ -1,0 +1,70 @@
+-- `tasks::answer_long` meets its contract.
+-- Assumes nothing.
+use Rattle.saying.proofs.Saying.{says-none}
+use mathlib.Core.Path.{refl, _∙_}
+use borrow.Author.Needs.{needs}
+use Rattle.tasks.proofs.answer_long.Statement.{statement}
+use Rattle.tasks.proofs.answer_long.Tie as tie
+
+enum-told : tie.Need-enum-told
+enum-told c = search needs
+
+put-closing-requires : tie.Need-put-closing-requires
+put-closing-requires c κs = search needs
+
+enum-told-2 : tie.Need-enum-told-2
+enum-told-2 c = search needs
+
+unit-long-requires : tie.Need-unit-long-requires
+unit-long-requires c κs = search needs
+
+nothing-requires : tie.Need-nothing-requires
+nothing-requires c κs = search needs
+
+enum-told-3 : tie.Need-enum-told-3
+enum-told-3 c = search needs
+
+pack-long-requires : tie.Need-pack-long-requires
+pack-long-requires c κs = search needs
+
+same-length : tie.Need-same-length
+same-length c = search needs
+
+returns : tie.Need-returns
+returns c =
+    let k = c .before .before in
+    rw (k .before .before .enum-told .given .1) (k .put-closing .ensures, refl)
+
+same-length-2 : tie.Need-same-length-2
+same-length-2 c = search needs
+
+returns-2 : tie.Need-returns-2
+returns-2 c =
+    let u = c .before .before in
+    rw (u .before .enum-told2 .given .1) (says-none (c .nothing .ensures .0), c .nothing .ensures .1 ∙ u .unit-long .ensures)
+
+same-length-3 : tie.Need-same-length-3
+same-length-3 c = search needs
+
+returns-3 : tie.Need-returns-3
+returns-3 c =
+    let k = c .before .before in
+    rw (k .before .before .enum-told3 .given .1) (k .pack-long .ensures)
+
+pub answer-long-spec : {M : Type 1} → statement M
+answer-long-spec =
+    tie.close
+    (tie.spec
+    enum-told
+    put-closing-requires
+    enum-told-2
+    unit-long-requires
+    nothing-requires
+    enum-told-3
+    pack-long-requires
+    same-length
+    returns
+    same-length-2
+    returns-2
+    same-length-3
+    returns-3)

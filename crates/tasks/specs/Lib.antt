@@ -1,0 +1,3 @@
+pub mod Place
+pub mod Tasks
+pub mod Did

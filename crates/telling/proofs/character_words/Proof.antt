@@ -1,0 +1,52 @@
+-- `telling::character_words` meets its contract.
+-- Assumes nothing.
+use Rattle.saying.proofs.Saying.{says-append}
+use borrow.Author.Needs.{needs}
+use Rattle.telling.proofs.character_words.Statement.{statement}
+use Rattle.telling.proofs.character_words.Tie as tie
+
+slice-aggregate-text : tie.Need-slice-aggregate-text
+slice-aggregate-text c = search needs
+
+text-requires : tie.Need-text-requires
+text-requires c κs = search needs
+
+decimal-requires : tie.Need-decimal-requires
+decimal-requires c κs = search needs
+
+slice-aggregate-text-2 : tie.Need-slice-aggregate-text-2
+slice-aggregate-text-2 c = search needs
+
+text-requires-2 : tie.Need-text-requires-2
+text-requires-2 c κs = search needs
+
+slice-aggregate-octets : tie.Need-slice-aggregate-octets
+slice-aggregate-octets c = search needs
+
+octets-requires : tie.Need-octets-requires
+octets-requires c κs = search needs
+
+same-length : tie.Need-same-length
+same-length c = search needs
+
+returns : tie.Need-returns
+returns c =
+    let o = c .before .before in
+    let s = o .before .before .before .before .before in
+    let n = s .before .before .before .before .before in
+    let t = n .before .before .before .before in
+    says-append (t .text .ensures) (says-append (n .decimal .ensures) (says-append (s .text4 .ensures) (o .octets .ensures)))
+
+pub character-words-spec : {M : Type 1} → statement M
+character-words-spec =
+    tie.close
+    (tie.spec
+    slice-aggregate-text
+    text-requires
+    decimal-requires
+    slice-aggregate-text-2
+    text-requires-2
+    slice-aggregate-octets
+    octets-requires
+    same-length
+    returns)
