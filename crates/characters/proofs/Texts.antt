@@ -4,23 +4,20 @@ use mathlib.Core.Path.{_≡_, refl, sym, ap, _∙_}
 use mathlib.Core.Bool.{Bool, true, false, _&&_}
 use mathlib.Core.List.{List, [], _∷_}
 use Prim.Native.Nat.{ℕ, _+_, _*_, _/_, _%_, _≤_, _<_}
-use native.Mathlib.Numerals.{add-one}
 use native.Mathlib.Omega.{arith}
 use lib.ListN.{length, getD, set, take, drop, length-set}
-use lib.Seq.{drop-cons, drop-length}
+use lib.Seq.{drop-length}
 use borrow.Author.Tests.{lt-ltb, le-ltb}
+use Rattle.laws.proofs.Lists.{drop-next}
 use Rattle.octets.specs.Copy.{laid}
 use Rattle.octets.proofs.Laid.{laid-past, laid-front}
 use Rattle.characters.specs.Digits.{valueOf, isDigit, digitOf, textOf, allDigits, octetsIn}
-
-next : (s : List ℕ) (i : ℕ) → i < length s → drop i s ≡ getD s i 0 ∷ drop (i + 1) s
-next s i h = drop-cons s i 0 h ∙ ap (λ (n : ℕ). getD s i 0 ∷ drop n s) (sym (add-one i))
 
 -- ---- whether all are digits
 
 digits-next : (s : List ℕ) (i : ℕ) → i < length s → allDigits (drop i s) ≡ isDigit (getD s i 0) && allDigits (drop (i + 1) s)
 unfolding allDigits
-digits-next s i h = ap allDigits (next s i h)
+digits-next s i h = ap allDigits (drop-next s i h)
 
 pub digits-pass : (s : List ℕ) (i : ℕ) → i < length s → valueOf (getD s i 0) < 16 → allDigits (drop (i + 1) s) ≡ allDigits (drop i s)
 digits-pass s i h small =
@@ -44,7 +41,7 @@ unfolding laid textOf
 laid-text-next d at s i h =
     let x : ℕ = getD s i 0 in
     ap (λ (n : ℕ). laid (set (set d at (digitOf (x / 16))) (at + 1) (digitOf x)) n (textOf (drop (i + 1) s))) (omega arith)
-    ∙ ap (λ (r : List ℕ). laid d at (textOf r)) (sym (next s i h))
+    ∙ ap (λ (r : List ℕ). laid d at (textOf r)) (sym (drop-next s i h))
 
 -- At the end no text is left.
 pub laid-text-end : (d : List ℕ) (at : ℕ) (s : List ℕ) → laid d at (textOf (drop (length s) s)) ≡ d
@@ -66,9 +63,9 @@ two-more : (s : List ℕ) (i : ℕ) → 2 * i + 1 < length s
     → drop (2 * i) s ≡ getD s (2 * i) 0 ∷ getD s (2 * i + 1) 0 ∷ drop (2 * (i + 1)) s
 two-more s i h =
     let behind : 2 * i + 1 + 1 ≡ 2 * (i + 1) = omega arith in
-    next s (2 * i) (omega arith)
+    drop-next s (2 * i) (omega arith)
     ∙ ap (λ (r : List ℕ). getD s (2 * i) 0 ∷ r)
-    (next s (2 * i + 1) h ∙ ap (λ (n : ℕ). getD s (2 * i + 1) 0 ∷ drop n s) behind)
+    (drop-next s (2 * i + 1) h ∙ ap (λ (n : ℕ). getD s (2 * i + 1) 0 ∷ drop n s) behind)
 
 -- An octet set, and behind it those that follow.
 pub laid-octets-next : (d s : List ℕ) (at i high low : ℕ) → 2 * i + 1 < length s → high ≡ valueOf (getD s (2 * i) 0) → low ≡ valueOf (getD s (2 * i + 1) 0)

@@ -23,6 +23,15 @@ isDigit c = ltb (valueOf c) 16
 unfoldable pub digitOf : ℕ → ℕ
 digitOf x = cond (ltb (x % 16) 10) (0x30 + x % 16) (0x41 + (x % 16 - 10))
 
+-- A digit a to f in upper case; any other character as it is.
+unfoldable pub upperOf : ℕ → ℕ
+upperOf c = cond (within 0x61 0x66 c) (c - 0x20) c
+
+-- A text with its digits in upper case.
+unfoldable pub upperText : List ℕ → List ℕ
+upperText [] = []
+upperText (c ∷ rest) = upperOf c ∷ upperText rest
+
 -- The text of octets: the two digits of each, the high one first.
 unfoldable pub textOf : List ℕ → List ℕ
 textOf [] = []

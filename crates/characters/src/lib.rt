@@ -1,6 +1,6 @@
 // Hexadecimal digits, and the text of octets.
 ghost use mathlib.Core.Path.{_≡_};
-ghost use Rattle.characters.specs.Digits.{valueOf, digitOf};
+ghost use Rattle.characters.specs.Digits.{valueOf, upperOf, digitOf};
 ghost use Rattle.characters.specs.Digits.{within as Within};
 
 pub mod text; // text.rt: the text of octets, and the octets of a text
@@ -29,6 +29,16 @@ pub fn value(c: u8) -> u8
         return c - 0x61 + 10;
     }
     16
+}
+
+// A digit a to f in upper case; any other character as it is.
+pub fn upper(c: u8) -> u8
+    ensures { λ r. ⌜ r ≡ upperOf c ⌝ }
+{
+    if lies_within(0x61, 0x66, c) {
+        return c - 0x20;
+    }
+    c
 }
 
 // The upper-case digit of a number's low four bits.

@@ -3,7 +3,7 @@ ghost use mathlib.Core.Path.{_≡_};
 ghost use Prim.Native.Nat.{_+_, _/_, _<_};
 ghost use lib.ListN.{length, set};
 ghost use Rattle.octets.specs.Copy.{laid};
-ghost use Rattle.characters.specs.Digits.{digitOf, textOf, allDigits, octetsIn};
+ghost use Rattle.characters.specs.Digits.{digitOf, textOf, upperText, allDigits, octetsIn};
 
 // Sets a character of a text; past the end it is dropped.
 pub fn put_character(text: &mut [u8], at: usize, c: u8)
@@ -38,6 +38,18 @@ pub fn put_text(text: &mut [u8], at: usize, octets: &[u8])
             return;
         }
         place += 2;
+        i += 1;
+    }
+}
+
+// Writes a text with its digits in upper case from a place on; what would stand past the end is dropped.
+pub fn put_upper(text: &mut [u8], at: usize, digits: &[u8])
+    ensures { λ _. ⌜ now (text .exit) ≡ laid (now (text .entry)) at (upperText (now (digits .entry))) ⌝ }
+{
+    let count = octets::copy::fitting(text.len(), at, digits.len());
+    let mut i = 0;
+    while i < count {
+        text[at + i] = crate::upper(digits[i]);
         i += 1;
     }
 }

@@ -4,7 +4,7 @@ use map::Profile;
 use map::end_of;
 use map::place::store_end;
 use map::place::store_start;
-use map::sound::lie_apart;
+use sound::lie_apart;
 ghost use mathlib.Core.Path.{_≡_};
 ghost use Prim.Native.Nat.{_+_, _≤_, _<_};
 ghost use lib.ListN.{getD, take, drop};

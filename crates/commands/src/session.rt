@@ -71,13 +71,6 @@ pub fn with_state(s: Session, state: State) -> Session
     next
 }
 
-// The octet at a place, and 0 past the end.
-pub fn one(octets: &[u8], at: usize) -> u8
-    ensures { λ r. ⌜ r ≡ octet (now (octets .entry)) at ⌝ }
-{
-    octets::numbers::octet_at(octets, at) as u8
-}
-
 // P: the profile.
 pub fn set_profile(s: Session, given: &[u8]) -> Session
     ensures { λ r. ⌜ r ≡ withProfile s (profileIn (now (given .entry))) ⌝ }
@@ -92,16 +85,16 @@ pub fn set_profile(s: Session, given: &[u8]) -> Session
 pub fn profile_in(given: &[u8]) -> Profile
     ensures { λ r. ⌜ r ≡ profileIn (now (given .entry)) ⌝ }
 {
-    let flags = one(given, 1);
+    let flags = octets::numbers::one(given, 1);
     Profile {
-        pid: one(given, 0),
+        pid: octets::numbers::one(given, 0),
         flags: Flags {
             load: flags % 2 == 1,
             dump: flags / 2 % 2 == 1,
             check: flags / 4 % 2 == 1,
             connection: flags / 8 % 2 == 1,
         },
-        count: one(given, 2),
+        count: octets::numbers::one(given, 2),
         areas: [
             area_at(given, 0),
             area_at(given, 1),
@@ -121,9 +114,9 @@ fn area_at(given: &[u8], index: usize) -> Area
     ensures { λ r. ⌜ r ≡ areaAt (now (given .entry)) index ⌝ }
 {
     let at = HEAD_OCTETS + AREA_OCTETS * index;
-    let rights = one(given, at + 13);
+    let rights = octets::numbers::one(given, at + 13);
     Area {
-        id: one(given, at),
+        id: octets::numbers::one(given, at),
         start: octets::numbers::word32_at(given, at + 1),
         length: octets::numbers::word32_at(given, at + 5),
         first: octets::numbers::word32_at(given, at + 9),
@@ -158,12 +151,12 @@ pub fn set_time(s: Session, given: &[u8]) -> Session
     ensures { λ r. ⌜ r ≡ withTime s (timeIn (now (given .entry))) ⌝ }
 {
     let time = [
-        one(given, 0),
-        one(given, 1),
-        one(given, 2),
-        one(given, 3),
-        one(given, 4),
-        one(given, 5),
+        octets::numbers::one(given, 0),
+        octets::numbers::one(given, 1),
+        octets::numbers::one(given, 2),
+        octets::numbers::one(given, 3),
+        octets::numbers::one(given, 4),
+        octets::numbers::one(given, 5),
     ];
     let mut next = s;
     next.time = time;
@@ -175,7 +168,7 @@ pub fn set_buffer(s: Session, given: &[u8], out: &mut [u8]) -> Session
     ensures { λ r. ⌜ r ≡ withRoom s (length (filling (now (given .entry)))) ⌝ }
     ensures { λ _. ⌜ now (out .exit) ≡ laid (now (out .entry)) 0 (filling (now (given .entry))) ⌝ }
 {
-    let full = [one(given, 2); OUT_ROOM];
+    let full = [octets::numbers::one(given, 2); OUT_ROOM];
     let length = octets::numbers::word16_at(given, 0) as usize;
     let mut next = s;
     next.room = octets::copy::put(out, 0, lines::front(&full, length));

@@ -7,7 +7,7 @@ use Prim.Native.Nat.{ℕ, _+_, _*_}
 use lib.Dec.{eqb}
 use borrow.Author.Tests.{eq-eqb, ne-eqb}
 use Rattle.octets.specs.declared.copy.Span.{Span}
-use Rattle.octets.specs.Fields.{apidOf}
+use Rattle.fields.specs.Fields.{apidOf}
 use Rattle.checks.specs.declared.Check.the-variants.{Apid, Service, Subtype, Form, Memory, Right, Outside}
 use Rattle.checks.specs.Table.{answer}
 use Rattle.checks.specs.Verdict.{row}

@@ -105,10 +105,10 @@ fn accepted(task: Task, ack: u8, data: Span) -> Decision
 fn caller_right(profile: Profile, state: State, store: usize) -> bool
     ensures { λ r. ⌜ r ≡ callerRight profile state store ⌝ }
 {
-    if !map::sound::is_sound(profile, store) {
+    if !sound::is_sound(profile, store) {
         return false;
     }
-    if !map::sound::store_allowed(store) {
+    if !sound::store_allowed(store) {
         return false;
     }
     counts::in_range(state.counts)
@@ -118,7 +118,7 @@ fn caller_right(profile: Profile, state: State, store: usize) -> bool
 fn judge_request(profile: Profile, fields: Fields, data: Span, packet: &[u8]) -> Decision
     ensures { λ r. ⌜ r ≡ requestDecision profile fields «data» (placed «data» (now (packet .entry))) ⌝ }
 {
-    let addressed = octets::fields::join_apid(profile.pid as u16, tc::CATEGORY);
+    let addressed = fields::join_apid(profile.pid as u16, tc::CATEGORY);
     if fields.apid != addressed {
         return refuse(Check::Apid, fields.apid);
     }

@@ -10,7 +10,7 @@ use lib.Dec.{eqb, leb}
 use borrow.Author.Tests.{leb-true}
 use Rattle.laws.specs.Each.{every, among}
 use Rattle.laws.proofs.Tests.{by-test, both}
-use Rattle.octets.specs.Fields.{apidOf}
+use Rattle.fields.specs.Fields.{apidOf}
 use Rattle.checks.specs.declared.Refusal.{Refusal}
 use Rattle.checks.specs.declared.Verdict.the-variants.{Accepted, Refused}
 use Rattle.checks.specs.Table.{Row, answer}

@@ -11,7 +11,7 @@ use lib.Dec.{leb}
 use lib.Seq.{take-append-seam, drop-append-seam}
 use borrow.Author.Tests.{leb-true, le-leb}
 use Rattle.laws.proofs.Tests.{both}
-use Rattle.octets.specs.Fields.{apidOf}
+use Rattle.fields.specs.Fields.{apidOf}
 use Rattle.octets.proofs.Laid.{laid-eq}
 use Rattle.tc.specs.declared.Fields.{Fields}
 use Rattle.tc.specs.Layout.{category, countMost, around, packetOf}

@@ -16,7 +16,7 @@ use Rattle.packetline.specs.Packet.{lineMost}
 use Rattle.hexline.specs.Line.{Station}
 use Rattle.hexline.specs.Whole.{answerRoom, lineProgram}
 use Rattle.tasks.specs.declared.Task.the-variants.{Line}
-use Rattle.tasks.specs.Place.{Place, profileAt, stationAt}
+use Rattle.desk.specs.Place.{Place, profileAt, stationAt}
 use Rattle.tasks.specs.Tasks.{taskProgram}
 use Rattle.feeding.specs.Feed.{pieceProgram}
 use Rattle.feeding.proofs.Streaming.{stream-whole}

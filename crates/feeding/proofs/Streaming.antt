@@ -16,10 +16,10 @@ use Rattle.hexline.specs.Whole.{answerRoom}
 use Rattle.hexline.proofs.Serving.{line-answer-most}
 use Rattle.tasks.specs.declared.Task.{Task}
 use Rattle.tasks.specs.declared.Task.the-variants.{Line, Unit, Pack}
-use Rattle.tasks.specs.declared.Desk.{Desk}
-use Rattle.tasks.specs.Place.{Place, profileAt, stationAt}
+use Rattle.desk.specs.declared.Desk.{Desk}
+use Rattle.desk.specs.Place.{Place, profileAt, stationAt}
 use Rattle.tasks.specs.Tasks.{taskSays, taskLongSays, taskProgram}
-use Rattle.tasks.proofs.Packing.{pack-most, long-most}
+use Rattle.packstep.proofs.Packing.{pack-most, long-most}
 use Rattle.feeding.specs.Feed.{pieceProgram}
 use Rattle.feeding.specs.Output.{unitFirst, unitBehind}
 

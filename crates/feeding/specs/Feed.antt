@@ -5,11 +5,11 @@ use Rattle.lines.specs.Pieces.{Piece}
 use Rattle.lines.specs.Turn.{Program}
 use Rattle.lines.specs.Feed.{Lent, overPieces}
 use Rattle.tasks.specs.declared.Task.{Task}
-use Rattle.tasks.specs.declared.Desk.{Desk}
-use Rattle.tasks.specs.declared.Done.{Done}
-use Rattle.tasks.specs.Place.{Place}
+use Rattle.desk.specs.declared.Desk.{Desk}
+use Rattle.desk.specs.declared.Done.{Done}
+use Rattle.desk.specs.Place.{Place}
 use Rattle.tasks.specs.Tasks.{taskProgram}
-use Rattle.tasks.specs.Did.{DidBy}
+use Rattle.desk.specs.Did.{DidBy}
 use Rattle.feeding.specs.declared.Progress.{Progress}
 
 -- A program over the pieces of lines.

@@ -11,9 +11,10 @@ use Rattle.clauses.specs.Clauses.{isSound, clauseOf}
 use Rattle.unit.specs.Unit.{nothingStated}
 use Rattle.telling.specs.Telling.{unitLine, unsoundLine}
 use Rattle.tasks.specs.declared.Task.the-variants.{Unit, Pack}
-use Rattle.tasks.specs.declared.Desk.{Desk}
-use Rattle.tasks.specs.Place.{Place, deskFor, isHalted}
-use Rattle.tasks.specs.Tasks.{unitEnd, taskProgram}
+use Rattle.desk.specs.declared.Desk.{Desk}
+use Rattle.desk.specs.Place.{Place, deskFor, isHalted}
+use Rattle.unitstep.specs.Step.{unitEnd}
+use Rattle.tasks.specs.Tasks.{taskProgram}
 
 -- The buffer for the frames: 4,096 zero octets.
 abbrev pub framesRoom : List ℕ

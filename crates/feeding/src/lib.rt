@@ -1,15 +1,15 @@
 // A program over lines that is fed its input in parts: whole pieces of lines are answered, and what is left is carried at the front of the input's buffer.
+use desk::Desk;
+use desk::Done;
 use lines::Cut;
 use lines::End;
 use lines::Walk;
 use packetline::LINE_MOST;
-use tasks::Desk;
-use tasks::Done;
 use tasks::Task;
 ghost use mathlib.Core.Path.{_≡_};
 ghost use Rattle.lines.specs.Pieces.{piece as pieceOf};
 ghost use Rattle.lines.specs.Feed.{WalkedBy, FedBy, FinishedBy};
-ghost use Rattle.tasks.specs.Place.{placeOf};
+ghost use Rattle.desk.specs.Place.{placeOf};
 ghost use Rattle.feeding.specs.Feed.{pieceProgram, atFirst, DidTo};
 
 // The most characters of an answer.

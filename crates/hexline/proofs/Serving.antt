@@ -1,44 +1,38 @@
 -- From the terminal's answer to what is said of a packet and of a line.
 -- Assumes nothing.
-use mathlib.Core.Path.{_≡_, refl, ap, ap₂, subst, _∙_}
+use mathlib.Core.Path.{_≡_, refl, sym, ap, ap₂, _∙_}
 use mathlib.Core.Bool.{true, false}
 use mathlib.Core.List.{List, _++_}
 use Prim.Native.Nat.{ℕ, _/_, _≤_}
 use native.Mathlib.Omega.{arith}
 use lib.ListN.{length, take, length-append}
+use lib.Seq.{take-all, length-take-le}
 use Rattle.octets.specs.Copy.{laid}
-use Rattle.octets.proofs.Laid.{laid-length}
+use Rattle.octets.proofs.Laid.{laid-length, laid-full, laid-front}
 use Rattle.laws.proofs.Tests.{by-test}
+use Rattle.laws.proofs.Order.{by-order}
 use Rattle.map.specs.declared.Profile.{Profile}
 use Rattle.terminal.specs.declared.Outcome.{Outcome}
 use Rattle.terminal.specs.Outcome.{Input, verdictOn, framesDue, octetsDue, Answered}
 use Rattle.hexline.specs.declared.Written.{Written}
 use Rattle.saying.specs.Text.{Says}
-use Rattle.saying.proofs.Saying.{says-append}
+use Rattle.saying.proofs.Saying.{says-as}
 use Rattle.packetline.specs.Packet.{isPacket, linesOf, closing, closingOf}
 use Rattle.packetline.proofs.Packets.{packet-facts}
 use Rattle.packetline.proofs.Cutting.{cut-most, closing-length}
-use Rattle.hexline.specs.Line.{Station, packetInput, packetAnswer, packetAfter, lineAnswer, lineAfter}
+use Rattle.hexline.specs.Line.{Station, packetInput, packetMost, packetIn, packetAnswer, packetAfter, lineAnswer, lineAfter}
 use Rattle.hexline.specs.Whole.{answerRoom}
 use Rattle.characters.specs.Digits.{textOf, octetsIn}
-use Rattle.characters.proofs.Texts.{decoded-front}
+use Rattle.characters.proofs.Texts.{octets-length, decoded-front}
 use Rattle.tm.specs.Frame.{cut}
 use Rattle.hexline.specs.Said.{Said}
-use Rattle.hexline.proofs.Said.{said-alone}
-use Rattle.terminal.proofs.Due.{due-bounded, due-fits, out-length, front-due, due-cut, verdict-due, written-due}
+use Rattle.terminal.proofs.Due.{due-bounded, front-due, due-cut, verdict-due, written-due}
 
--- What stands at the front of the output buffer after an answer.
-pub record Front (i : Input) (r : Outcome) (out : List ℕ) : Type 0 where
-  pub inside : r .written ≤ length out
-  pub frames : take (r .written) out ≡ octetsDue i
-
-pub answered-front : (i : Input) (r : Outcome) (store out : List ℕ) → Answered i r store out → Front i r out
-answered-front i r store out a =
+-- The frames that stand at the front of the output buffer after an answer, one a line.
+pub due-lines : (i : Input) {r : Outcome} {store out : List ℕ} → Answered i r store out → linesOf (cut (take (r .written) out)) ≡ linesOf (framesDue i)
+due-lines i {r = r} a =
     let written : r .written ≡ length (octetsDue i) = ap (λ (o : Outcome). o .written) (a .outcome-is) ∙ written-due i in
-    record {
-      inside = omega (arith, written, due-fits i, ap length (a .out-is), out-length i);
-      frames = ap₂ (λ (n : ℕ) (o : List ℕ). take n o) written (a .out-is) ∙ front-due i;
-    }
+    ap (λ (o : List ℕ). linesOf (cut o)) (ap₂ (λ (n : ℕ) (o : List ℕ). take n o) written (a .out-is) ∙ front-due i) ∙ ap linesOf (due-cut i)
 
 module _ (p : Profile) (m : Station) (packet : List ℕ) where
   -- An answer has at most 16,384 characters.
@@ -56,50 +50,55 @@ module _ (p : Profile) (m : Station) (packet : List ℕ) where
       )
 
   -- The frames written one a line, and the closing line behind them.
-  pub packet-said : (at : ℕ) (text : List ℕ) (r : Outcome) (store out t₁ t₂ : List ℕ) (end last : ℕ)
-      → Answered (packetInput p m packet) r store out
-      → Says (linesOf (cut (take (r .written) out))) at text end t₁ → Says (closingOf (r .verdict)) end t₁ last t₂
-      → Said (packetAnswer p m packet) (packetAfter p m packet) at text (record { at = last; state = r .state }) store out t₂
+  pub packet-said : {at : ℕ} {text : List ℕ} {r : Outcome} {store out t : List ℕ} {end : ℕ} → Answered (packetInput p m packet) r store out
+      → Says (linesOf (cut (take (r .written) out)) ++ closingOf (r .verdict)) at text end t
+      → Said (packetAnswer p m packet) (packetAfter p m packet) at text (record { at = end; state = r .state }) store out t
   unfolding packetAnswer packetAfter
-  packet-said at text r store out t₁ t₂ end last a f g =
+  packet-said a f =
       let i : Input = packetInput p m packet in
-      let front = answered-front i r store out a in
-      let due : linesOf (cut (take (r .written) out)) ≡ linesOf (framesDue i) = ap (λ (o : List ℕ). linesOf (cut o)) (front .frames) ∙ ap linesOf (due-cut i) in
-      let v : closingOf (r .verdict) ≡ closingOf (verdictOn i) = ap (λ (o : Outcome). closingOf (o .verdict)) (a .outcome-is) ∙ ap closingOf (verdict-due i) in
+      let v = ap (λ (o : Outcome). closingOf (o .verdict)) (a .outcome-is) ∙ ap closingOf (verdict-due i) in
       record {
-        says = subst (λ (l : List ℕ). Says l at text last t₂) (ap₂ (λ (l k : List ℕ). l ++ k) due v) (says-append f g);
+        says = says-as (ap₂ (λ (l k : List ℕ). l ++ k) (due-lines i a) v) f;
         state-is = ap (λ (o : Outcome). o .state) (a .outcome-is);
         store-is = a .store-is;
         out-is = a .out-is;
       }
 
--- A packet line's octets, at the front of the buffer that they were written to.
-pub record Decoded (line packet : List ℕ) (count : ℕ) : Type 0 where
-  pub inside : count ≤ length packet
-  pub octets : take count packet ≡ octetsIn line
+-- A line's packet stands at the front of a buffer of 2,048 octets that its octets were written to.
+pub decoded : (line d packet : List ℕ) → length d ≡ packetMost → packet ≡ laid d 0 (octetsIn line) → take (length line / 2) packet ≡ packetIn line
+unfolding packetIn
+decoded line d packet room f =
+    let o : List ℕ = octetsIn line in
+    let n : ℕ = length line / 2 in
+    let t : List ℕ = take packetMost o in
+    ap (λ (r : List ℕ). take n r) f
+    ∙ by-order n packetMost
+    (λ few. decoded-front d line (omega arith) ∙ sym (take-all packetMost o (omega (arith, octets-length line))))
+    (λ many.
+    let size : length t ≡ packetMost = length-take-le packetMost o (omega (arith, octets-length line)) in
+    take-all n (laid d 0 o) (omega (arith, laid-length d 0 o))
+    ∙ sym (laid-full d 0 o packetMost (omega (arith, octets-length line)) (omega arith))
+    ∙ sym (take-all (length t) (laid d 0 t) (omega (arith, laid-length d 0 t)))
+    ∙ laid-front d t (omega arith))
 
-pub decoded : (line buffer packet : List ℕ) (count : ℕ) → isPacket line ≡ true → length buffer ≡ 2048 → count ≡ length line / 2
-    → packet ≡ laid buffer 0 (octetsIn line) → Decoded line packet count
-decoded line buffer packet count good room half f =
-    let few : length line / 2 ≤ length buffer = omega (arith, packet-facts line good .2) in
-    record {
-      inside = omega (arith, half, few, ap length f, laid-length buffer 0 (octetsIn line));
-      octets = ap₂ (λ (n : ℕ) (o : List ℕ). take n o) half f ∙ decoded-front buffer line few;
-    }
+-- A packet line's packet is all of its octets.
+pub packet-in : (line : List ℕ) → isPacket line ≡ true → packetIn line ≡ octetsIn line
+unfolding packetIn
+packet-in line good = take-all packetMost (octetsIn line) (omega (arith, octets-length line, packet-facts line good .2))
 
 module _ (p : Profile) (m : Station) (line : List ℕ) where
   -- 0200, and nothing changed.
   pub line-refused : (at end : ℕ) (text t : List ℕ) → isPacket line ≡ false → Says (closing 2 0) at text end t
       → Said (lineAnswer p m line) (lineAfter p m line) at text (record { at = end; state = m .machine .state }) (m .machine .store) (m .out) t
   unfolding lineAnswer lineAfter
-  line-refused at end text t bad s = rw bad (said-alone m at end text t (closing 2 0) s)
+  line-refused at end text t bad s = rw bad (record { says = s; state-is = refl; store-is = refl; out-is = refl })
 
   -- What is said of the packet is said of the line.
-  pub line-served : (packet : List ℕ) (at : ℕ) (text : List ℕ) (r : Written) (store out t : List ℕ) → isPacket line ≡ true → packet ≡ octetsIn line
-      → Said (packetAnswer p m packet) (packetAfter p m packet) at text r store out t
+  pub line-served : {at : ℕ} {text : List ℕ} {r : Written} {store out t : List ℕ} → isPacket line ≡ true
+      → Said (packetAnswer p m (packetIn line)) (packetAfter p m (packetIn line)) at text r store out t
       → Said (lineAnswer p m line) (lineAfter p m line) at text r store out t
   unfolding lineAnswer lineAfter
-  line-served packet at text r store out t good e s = rw (good, ← e) s
+  line-served good s = rw (good, ← packet-in line good) s
 
   pub line-answer-most : length (lineAnswer p m line) ≤ answerRoom
   unfolding lineAnswer textOf

@@ -2,6 +2,7 @@
 use mathlib.Core.Bool.{cond}
 use mathlib.Core.List.{List, _++_}
 use Prim.Native.Nat.{ℕ}
+use lib.ListN.{take}
 use Rattle.map.specs.declared.Profile.{Profile}
 use Rattle.terminal.specs.Outcome.{Input, verdictOn, framesDue, outAfter}
 use Rattle.terminal.specs.Run.{Machine, Step, inputFor, after}
@@ -20,6 +21,13 @@ stepFor m packet = record { packet = packet; time = lineTime; out = m .out }
 
 abbrev pub packetInput : Profile → Station → List ℕ → Input
 packetInput p m packet = inputFor p (m .machine) (stepFor m packet)
+
+-- The packet that a line states: its octets, the first 2,048 of them. A packet line has no more.
+abbrev pub packetMost : ℕ
+packetMost = 2048
+
+unfoldable pub packetIn : List ℕ → List ℕ
+packetIn line = take packetMost (octetsIn line)
 
 -- What a packet is answered: its frames, one a line, then the closing line.
 unfoldable pub packetAnswer : Profile → Station → List ℕ → List ℕ

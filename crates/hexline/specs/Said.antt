@@ -5,9 +5,12 @@ use Prim.Native.Nat.{ℕ}
 use denote.Ref.{RefT, now}
 use Rattle.lines.specs.Feed.{Lent}
 use Rattle.saying.specs.Text.{Says}
+use Rattle.map.specs.declared.Profile.{Profile}
 use Rattle.decide.specs.declared.State.{State}
+use Rattle.terminal.specs.declared.Outcome.{Outcome}
+use Rattle.terminal.specs.Outcome.{Answered}
 use Rattle.hexline.specs.declared.Written.{Written}
-use Rattle.hexline.specs.Line.{Station}
+use Rattle.hexline.specs.Line.{Station, packetInput, packetIn}
 
 -- The state, the store and the output buffer that a function is lent.
 abbrev pub stationOf : State → RefT (List ℕ) → RefT (List ℕ) → Station
@@ -25,3 +28,8 @@ abbrev pub SaidBy : (Station → List ℕ) → (Station → Station) → State �
 SaidBy says becomes state at store out text r =
     Said (says (stationOf state (store .entry) (out .entry))) (becomes (stationOf state (store .entry) (out .entry)))
     at (now (text .entry)) r (now (store .exit)) (now (out .exit)) (now (text .exit))
+
+-- What is promised of a line's packet at the terminal.
+abbrev pub ServedBy : Profile → State → List ℕ → Lent → Lent → Outcome → Type 0
+ServedBy p state line store out r =
+    Answered (packetInput p (stationOf state (store .entry) (out .entry)) (packetIn line)) r (now (store .exit)) (now (out .exit))

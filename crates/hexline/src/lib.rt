@@ -1,8 +1,14 @@
 // The line program of document 01: a packet a line in hexadecimal, and what each line is answered.
 use decide::State;
 use map::Profile;
-ghost use Rattle.hexline.specs.Line.{packetAnswer, packetAfter, lineAnswer, lineAfter};
-ghost use Rattle.hexline.specs.Said.{SaidBy};
+use terminal::Outcome;
+ghost use mathlib.Core.List.{_++_};
+ghost use lib.ListN.{take};
+ghost use Rattle.tm.specs.Frame.{cut};
+ghost use Rattle.saying.specs.Text.{SaysBy};
+ghost use Rattle.packetline.specs.Packet.{linesOf, closingOf};
+ghost use Rattle.hexline.specs.Line.{lineAnswer, lineAfter};
+ghost use Rattle.hexline.specs.Said.{SaidBy, ServedBy};
 
 // How many octets a packet line has at the most.
 const PACKET_ROOM: usize = 2048;
@@ -13,28 +19,30 @@ pub struct Written {
     pub state: State,
 }
 
-// Answers a packet: its frames one a line, then the closing line.
-fn serve(
+// The terminal's answer to the packet that a line states, with time zero.
+pub fn serve(
     profile: Profile,
     state: State,
-    packet: &[u8],
+    line: &[u8],
     store: &mut [u8],
     out: &mut [u8],
-    text: &mut [u8],
-    at: usize,
-) -> Written
-    ensures { λ r. ⌜ SaidBy (λ m. packetAnswer profile m (now (packet .entry))) (λ m. packetAfter profile m (now (packet .entry))) state at store out text r ⌝ }
+) -> Outcome
+    ensures { λ r. ⌜ ServedBy profile state (now (line .entry)) store out r ⌝ }
 {
-    let outcome = terminal::answer(profile, state, [0; 6], packet, store, out);
-    let written = outcome.written;
-    let end = packetline::put_frames(&out[..written], text, at);
+    let mut packet = [0u8; PACKET_ROOM];
+    characters::text::decode(line, &mut packet, 0);
+    let octets = lines::front(&packet, line.len() / 2);
+    terminal::answer(profile, state, [0; 6], octets, store, out)
+}
+
+// The frames at the front of the output buffer, one a line, then the closing line.
+fn close(outcome: Outcome, out: &[u8], text: &mut [u8], at: usize) -> usize
+    ensures { λ r. ⌜ SaysBy (linesOf (cut (take (outcome .written) (now (out .entry)))) ++ closingOf (outcome .verdict)) at text r ⌝ }
+{
+    let frames = lines::front(out, outcome.written);
+    let end = packetline::put_frames(frames, text, at);
     let verdict = outcome.verdict;
-    let last = packetline::put_verdict(verdict, text, end);
-    let next = outcome.state;
-    Written {
-        at: last,
-        state: next,
-    }
+    packetline::put_verdict(verdict, text, end)
 }
 
 // Answers a line into a text from a place on: 0200 where it is no packet line. What would stand past the text's end is dropped.
@@ -53,8 +61,11 @@ pub fn answer(
         let end = packetline::put_closing(2, 0, text, at);
         return Written { at: end, state };
     }
-    let mut packet = [0u8; PACKET_ROOM];
-    characters::text::decode(line, &mut packet, 0);
-    let count = line.len() / 2;
-    serve(profile, state, &packet[..count], store, out, text, at)
+    let outcome = serve(profile, state, line, store, out);
+    let end = close(outcome, out, text, at);
+    let next = outcome.state;
+    Written {
+        at: end,
+        state: next,
+    }
 }

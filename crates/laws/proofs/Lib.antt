@@ -3,3 +3,4 @@ pub mod Order
 pub mod Each
 pub mod First
 pub mod Fold
+pub mod Lists

@@ -1,6 +1,5 @@
 // Lines of an input that comes in parts: the whole pieces at the front of what is not answered yet, and what is left moved to the front.
 ghost use mathlib.Core.Path.{_≡_};
-ghost use Prim.Native.Nat.{_+_, min};
 ghost use lib.ListN.{length, take, drop};
 ghost use Rattle.octets.specs.Copy.{laid};
 ghost use Rattle.lines.specs.Cuts.{started, nextOf, restOf, endsLine, leftOf, passedOf, carriedOf};
@@ -49,26 +48,6 @@ pub fn start() -> Progress
     }
 }
 
-// The lesser of two numbers.
-fn least(a: usize, b: usize) -> usize
-    ensures { λ r. ⌜ r ≡ min a b ⌝ }
-{
-    if a < b { a } else { b }
-}
-
-// The sum of two numbers, and no more than a third.
-fn least_sum(a: usize, b: usize, most: usize) -> usize
-    ensures { λ r. ⌜ r ≡ min (a + b) most ⌝ }
-{
-    if most <= a {
-        return most;
-    }
-    if most - a <= b {
-        return most;
-    }
-    a + b
-}
-
 // The first characters of an input, and all of them where there are no more.
 pub fn front(input: &[u8], count: usize) -> &[u8]
     ensures { λ r. ⌜ now r ≡ take count (now (input .entry)) ⌝ }
@@ -93,7 +72,7 @@ pub fn piece(input: &[u8], from: usize, count: usize) -> &[u8]
 pub fn next(input: &[u8], from: usize, bound: usize) -> Cut
     ensures { λ r. ⌜ r ≡ nextOf bound (drop from (now (input .entry))) ⌝ }
 {
-    let full = least_sum(from, bound, input.len());
+    let full = octets::numbers::least_sum(from, bound, input.len());
     let mut at = from;
     while at < full {
         if input[at] == NEWLINE {
@@ -135,7 +114,7 @@ pub fn ends(end: End) -> bool
 pub fn passed(input: &[u8], w: Walk, count: usize, end: End, at: usize) -> Walk
     ensures { λ r. ⌜ r ≡ passedOf (now (input .entry)) w count end at ⌝ }
 {
-    let place = least_sum(w.from, count, input.len());
+    let place = octets::numbers::least_sum(w.from, count, input.len());
     match end {
         End::On => Walk {
             from: place,
@@ -144,7 +123,7 @@ pub fn passed(input: &[u8], w: Walk, count: usize, end: End, at: usize) -> Walk
             at,
         },
         End::Newline => Walk {
-            from: least_sum(place, 1, input.len()),
+            from: octets::numbers::least_sum(place, 1, input.len()),
             begins: true,
             open: false,
             at,
@@ -163,7 +142,7 @@ pub fn keep(buffer: &mut [u8], from: usize, have: usize) -> usize
     ensures { λ r. ⌜ r ≡ length (leftOf from have (now (buffer .entry))) ⌝ }
     ensures { λ r. ⌜ now (buffer .exit) ≡ laid (now (buffer .entry)) 0 (leftOf from have (now (buffer .entry))) ⌝ }
 {
-    let end = least(have, buffer.len());
+    let end = octets::numbers::least(have, buffer.len());
     let mut i = 0;
     let mut at = from;
     while at < end {

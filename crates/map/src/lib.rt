@@ -5,7 +5,6 @@ ghost use lib.ListN.{set};
 ghost use Rattle.map.specs.Place.{octetsOf};
 
 pub mod place; // place.rt: which area has a memory ID, and where its words stand in the store
-pub mod sound; // sound.rt: when a profile is sound over a store
 
 // What may be done in an area.
 pub struct Rights {
@@ -53,7 +52,7 @@ pub enum Found {
 const WORD: u8 = 2;
 
 // The most areas.
-const AREAS: usize = 8;
+pub const AREAS: usize = 8;
 
 // The eight places with one of them set; a place past the eighth changes nothing.
 pub fn set_area(areas: [Area; 8], at: usize, area: Area) -> [Area; 8]

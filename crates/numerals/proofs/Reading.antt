@@ -5,12 +5,12 @@ use mathlib.Core.Bool.{true, false, cond}
 use mathlib.Core.List.{List, [], _∷_}
 use Prim.Native.Nat.{ℕ, _+_, _-_, _*_, _≤_, _<_, min}
 use native.Mathlib.Nat.{le-trans, le-add-right, le-mul-of-pos-right}
-use native.Mathlib.Numerals.{add-one}
 use native.Mathlib.Omega.{arith}
 use lib.ListN.{length, getD, take, drop, length-drop, drop-of-length-le}
-use lib.Seq.{drop-cons, take-all}
+use lib.Seq.{take-all}
 use lib.Dec.{eqb, leb}
 use borrow.Author.Tests.{lt-ltb, le-ltb, le-leb, lt-leb, leb-true}
+use Rattle.laws.proofs.Lists.{drop-next}
 use Rattle.laws.proofs.Order.{by-order}
 use Rattle.laws.proofs.Tests.{and-left}
 use Rattle.octets.specs.Numbers.{octet}
@@ -65,7 +65,7 @@ module _ (base : ℕ) (some : 1 ≤ base) where
 
 module _ (base n : ℕ) (s : List ℕ) (i : ℕ) (h : i < length s) where
   here : statedFrom base n (drop i s) ≡ statedFrom base n (getD s i 0 ∷ drop (i + 1) s)
-  here = ap (λ (r : List ℕ). statedFrom base n r) (drop-cons s i 0 h ∙ ap (λ (k : ℕ). getD s i 0 ∷ drop k s) (sym (add-one i)))
+  here = ap (λ (r : List ℕ). statedFrom base n r) (drop-next s i h)
 
   pub stated-fail : base ≤ valueOf (getD s i 0) → Bad ≡ statedFrom base n (drop i s)
   unfolding statedFrom digitsOf

@@ -1,4 +1,3 @@
 pub mod Between
 pub mod Laid
-pub mod Masks
 pub mod Words

@@ -24,7 +24,7 @@ pub fn put(buffer: &mut [u8], at: usize, octets: &[u8]) -> usize
 }
 
 // How many of some octets have room in a buffer of that length from a place on.
-fn fitting(length: usize, at: usize, wanted: usize) -> usize
+pub fn fitting(length: usize, at: usize, wanted: usize) -> usize
     ensures { λ r. ⌜ r ≡ min wanted (length - at) ⌝ }
 {
     if length <= at {

@@ -1,6 +1,6 @@
 // Numbers of 16 and 32 bits, the most significant octet first.
 ghost use mathlib.Core.Path.{_≡_};
-ghost use Prim.Native.Nat.{_<_};
+ghost use Prim.Native.Nat.{_+_, _<_, min};
 ghost use Rattle.octets.specs.Numbers.{octet, word16, word32, octets16, octets32};
 
 // How many values an octet has.
@@ -18,6 +18,33 @@ pub fn octet_at(s: &[u8], at: usize) -> u16
     ensures { λ r. ⌜ (r ≡ octet (now (s .entry)) at) × (r < 256) ⌝ }
 {
     if at < s.len() { wide(s[at]) } else { 0 }
+}
+
+// The same as one octet.
+pub fn one(s: &[u8], at: usize) -> u8
+    ensures { λ r. ⌜ r ≡ octet (now (s .entry)) at ⌝ }
+{
+    octet_at(s, at) as u8
+}
+
+// The lesser of two numbers.
+pub fn least(a: usize, b: usize) -> usize
+    ensures { λ r. ⌜ r ≡ min a b ⌝ }
+{
+    if a < b { a } else { b }
+}
+
+// The sum of two numbers, and no more than a third.
+pub fn least_sum(a: usize, b: usize, most: usize) -> usize
+    ensures { λ r. ⌜ r ≡ min (a + b) most ⌝ }
+{
+    if most <= a {
+        return most;
+    }
+    if most - a <= b {
+        return most;
+    }
+    a + b
 }
 
 // The number of 16 bits at a place; octets past the end count as 0.

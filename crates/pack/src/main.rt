@@ -1,9 +1,7 @@
 // `pack`: for a unit and packets, one a line, the record that a faultless unit would give.
 use clauses::Clause;
-use console::Got;
 use console::files::Files;
-use feeding::Progress;
-use tasks::Desk;
+use desk::Desk;
 use tasks::Task;
 
 // How much each buffer holds. The input has room behind the longest open piece, 4,096 characters, for 65,536 more.
@@ -24,119 +22,9 @@ type Text = [u8; TEXT_ROOM];
 // The buffer that the terminal's frames are laid into.
 type Frames = [u8; FRAMES_ROOM];
 
-// Whether to go on, whether something failed, and how far the program has come.
-struct Next {
-    on: bool,
-    failed: bool,
-    p: Progress,
-}
-
-// Writes the front of a text, and answers whether to go on.
-fn write(text: &Text, count: usize) -> bool {
-    console::write(b"pack", lines::front(text, count))
-}
-
-// Where the program is not to go on.
-fn ended(failed: bool, p: Progress) -> Next {
-    Next {
-        on: false,
-        failed,
-        p,
-    }
-}
-
-// Answers what is left at the end of the input.
-fn end(
-    task: Task,
-    p: Progress,
-    input: &Input,
-    store: &mut [u8],
-    frames: &mut Frames,
-    text: &mut Text,
-) -> Next {
-    let last = feeding::finish(task, p, input, store, frames, text);
-    let failed = !write(text, last.at);
-    let lines = p.lines;
-    let desk = last.desk;
-    ended(failed, Progress { lines, desk })
-}
-
-// Reads behind what is left: more of the input, its end, or a failure, after which nothing is answered any more.
-fn more(
-    task: Task,
-    file: i32,
-    p: Progress,
-    input: &mut Input,
-    store: &mut [u8],
-    frames: &mut Frames,
-    text: &mut Text,
-) -> Next {
-    let mut l = p.lines;
-    match console::read(b"pack", file, input, l.have) {
-        Got::More(have) => {
-            l.have = have;
-            let desk = p.desk;
-            Next {
-                on: true,
-                failed: false,
-                p: Progress { lines: l, desk },
-            }
-        }
-        Got::End => end(task, p, input, store, frames, text),
-        Got::Failed => ended(true, p),
-    }
-}
-
-// One turn: answers what was read and writes the answers; then, where the program has not stopped and no whole piece is left, reads more.
-fn turn(
-    task: Task,
-    file: i32,
-    p: Progress,
-    input: &mut Input,
-    store: &mut [u8],
-    frames: &mut Frames,
-    text: &mut Text,
-) -> Next {
-    let fed = feeding::feed(task, p, input, store, frames, text);
-    let l = fed.lines;
-    if !write(text, l.at) {
-        return ended(true, fed);
-    }
-    if tasks::is_halted(fed.desk) {
-        return ended(false, fed);
-    }
-    if !l.open {
-        return Next {
-            on: true,
-            failed: false,
-            p: fed,
-        };
-    }
-    more(task, file, fed, input, store, frames, text)
-}
-
-// A proved loop has to end, and nothing says that the input does. So the loop counts its turns down, from a number that no run uses up.
-fn run(
-    task: Task,
-    file: i32,
-    desk: Desk,
-    input: &mut Input,
-    store: &mut [u8],
-    frames: &mut Frames,
-    text: &mut Text,
-) -> Next {
-    let mut turns = u64::MAX;
-    let mut t = Next {
-        on: true,
-        failed: false,
-        p: feeding::start(desk),
-    };
-    while turns > 0 && t.on {
-        let p = t.p;
-        t = turn(task, file, p, input, store, frames, text);
-        turns -= 1;
-    }
-    t
+// Writes the front of a text.
+fn write(text: &Text, count: usize) {
+    console::write(b"pack", lines::front(text, count));
 }
 
 // Tells the first bad line of the unit file.
@@ -165,18 +53,18 @@ fn print(
     text: &mut Text,
 ) {
     let draft = desk.draft;
-    let t = run(
+    let ran = running::run(
+        b"pack",
         Task::Pack,
         file,
-        tasks::start(draft),
+        desk::start(draft),
         input,
         store,
         frames,
         text,
     );
-    let p = t.p;
-    let after = p.desk;
-    if t.failed || !tasks::is_halted(after) {
+    let after = ran.desk;
+    if ran.failed || !desk::is_halted(after) {
         return;
     }
     let halt = after.halt;
@@ -199,23 +87,16 @@ fn print_from(
     }
 }
 
-// Reads the unit; where it is fine and sound, prints the record.
-fn pack(files: Files, input: &mut Input, store: &mut [u8], frames: &mut Frames, text: &mut Text) {
-    let t = run(
-        Task::Unit,
-        files.unit,
-        tasks::start(unit::nothing()),
-        input,
-        store,
-        frames,
-        text,
-    );
-    if t.failed {
-        return;
-    }
-    let p = t.p;
-    let desk = tasks::unit_end(p.desk);
-    if tasks::is_halted(desk) {
+// Prints the record under the unit that was read, where that is fine and sound.
+fn print_for(
+    file: i32,
+    desk: Desk,
+    input: &mut Input,
+    store: &mut [u8],
+    frames: &mut Frames,
+    text: &mut Text,
+) {
+    if desk::is_halted(desk) {
         tell_unit(desk, text);
         return;
     }
@@ -226,7 +107,26 @@ fn pack(files: Files, input: &mut Input, store: &mut [u8], frames: &mut Frames, 
         tell_unsound(clause, text);
         return;
     }
-    print_from(files.input, desk, input, store, stored, frames, text);
+    print_from(file, desk, input, store, stored, frames, text);
+}
+
+// Reads the unit, and goes on with it.
+fn pack(files: Files, input: &mut Input, store: &mut [u8], frames: &mut Frames, text: &mut Text) {
+    let ran = running::run(
+        b"pack",
+        Task::Unit,
+        files.unit,
+        desk::start(unit::nothing()),
+        input,
+        store,
+        frames,
+        text,
+    );
+    if ran.failed {
+        return;
+    }
+    let desk = unitstep::unit_end(ran.desk);
+    print_for(files.input, desk, input, store, frames, text);
 }
 
 fn main() {

@@ -4,30 +4,27 @@ use mathlib.Core.Path.{_≡_, refl, sym, ap, _∙_}
 use mathlib.Core.Bool.{Bool, true, false, _&&_}
 use mathlib.Core.List.{List, [], _∷_}
 use Prim.Native.Nat.{ℕ, suc, _+_, _≤_, _<_}
-use native.Mathlib.Numerals.{add-one}
 use native.Mathlib.Omega.{arith}
 use lib.ListN.{length, getD, drop}
-use lib.Seq.{drop-cons, drop-length}
+use lib.Seq.{drop-length}
 use lib.Dec.{ltb}
 use borrow.Author.Tests.{lt-ltb, le-ltb}
+use Rattle.laws.proofs.Lists.{drop-next}
 use Rattle.laws.proofs.Tests.{by-test}
 use Rattle.characters.specs.Digits.{valueOf, isDigit, allDigits}
 use Rattle.packline.specs.Record.{badPlace, haltOf, haltOdd, haltCharacter}
 use Rattle.packline.specs.declared.Halt.{Halt}
 
-next : (s : List ℕ) (i : ℕ) → i < length s → drop i s ≡ getD s i 0 ∷ drop (i + 1) s
-next s i h = drop-cons s i 0 h ∙ ap (λ (n : ℕ). getD s i 0 ∷ drop n s) (sym (add-one i))
-
 -- Behind a digit the place is one more, and at another character it is found.
 pub place-pass : (s : List ℕ) (i : ℕ) → i < length s → valueOf (getD s i 0) < 16 → i + 1 + badPlace (drop (i + 1) s) ≡ i + badPlace (drop i s)
 unfolding badPlace
 place-pass s i h small =
-    let e : badPlace (drop i s) ≡ suc (badPlace (drop (i + 1) s)) = ap badPlace (next s i h) ∙ (rw (lt-ltb (valueOf (getD s i 0)) 16 small) refl) in
+    let e : badPlace (drop i s) ≡ suc (badPlace (drop (i + 1) s)) = ap badPlace (drop-next s i h) ∙ (rw (lt-ltb (valueOf (getD s i 0)) 16 small) refl) in
     omega (arith, e)
 
 pub place-found : (s : List ℕ) (i : ℕ) → i < length s → 16 ≤ valueOf (getD s i 0) → badPlace (drop i s) ≡ 0
 unfolding badPlace
-place-found s i h large = ap badPlace (next s i h) ∙ (rw (le-ltb (valueOf (getD s i 0)) 16 large) refl)
+place-found s i h large = ap badPlace (drop-next s i h) ∙ (rw (le-ltb (valueOf (getD s i 0)) 16 large) refl)
 
 pub place-end : (s : List ℕ) → badPlace (drop (length s) s) ≡ 0
 unfolding badPlace

@@ -4,24 +4,23 @@ use mathlib.Core.List.{List, [], _∷_, _++_}
 use Prim.Native.Nat.{ℕ, suc, _+_}
 use lib.Dec.{eqb}
 use Rattle.octets.specs.Numbers.{octet}
-use Rattle.characters.specs.Digits.{isDigit, allDigits, octetsIn}
+use Rattle.characters.specs.Digits.{isDigit, allDigits, upperText}
 use Rattle.lines.specs.Lines.{newline}
 use Rattle.words.specs.Ascii.{ascii}
 use Rattle.numerals.specs.Numbers.{decimalOf}
-use Rattle.saying.specs.Text.{lineOf}
-use Rattle.packetline.specs.Packet.{isPacket, linesOf}
+use Rattle.packetline.specs.Packet.{linesOf}
 use Rattle.map.specs.declared.Profile.{Profile}
 use Rattle.terminal.specs.Outcome.{framesDue}
-use Rattle.hexline.specs.Line.{Station, packetInput}
+use Rattle.hexline.specs.Line.{Station, packetInput, packetIn, packetAfter}
 use Rattle.packline.specs.declared.Halt.{Halt}
 
--- The record of a packet: the packet in upper case, its frames with time zero, one a line, and an empty line.
-unfoldable pub packetRecord : Profile → Station → List ℕ → List ℕ
-packetRecord p m packet = lineOf packet ++ (linesOf (framesDue (packetInput p m packet)) ++ newline ∷ [])
+-- The record of a packet line: the line in upper case, its packet's frames with time zero, one a line, and an empty line.
+unfoldable pub recordOf : Profile → Station → List ℕ → List ℕ
+recordOf p m line = upperText line ++ (newline ∷ (linesOf (framesDue (packetInput p m (packetIn line))) ++ newline ∷ []))
 
--- The record of a line: that of its packet, and nothing where it is no packet line.
-unfoldable pub lineRecord : Profile → Station → List ℕ → List ℕ
-lineRecord p m line = cond (isPacket line) (packetRecord p m (octetsIn line)) []
+-- What goes on from it.
+abbrev pub recordAfter : Profile → Station → List ℕ → Station
+recordAfter p m line = packetAfter p m (packetIn line)
 
 -- Why a program stops at a line: it does not; the line is too long; a character is no digit; the digits are odd.
 abbrev pub goesOn : Halt

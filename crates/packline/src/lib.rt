@@ -3,15 +3,15 @@ use decide::State;
 use hexline::Written;
 use map::Profile;
 ghost use mathlib.Core.Path.{_≡_};
+ghost use mathlib.Core.List.{[], _∷_, _++_};
 ghost use Prim.Native.Nat.{_≤_};
-ghost use lib.ListN.{length};
+ghost use lib.ListN.{length, take};
+ghost use Rattle.tm.specs.Frame.{cut};
+ghost use Rattle.lines.specs.Lines.{newline};
 ghost use Rattle.saying.specs.Text.{SaysBy};
-ghost use Rattle.hexline.specs.Line.{packetAfter, lineAfter};
+ghost use Rattle.packetline.specs.Packet.{linesOf};
 ghost use Rattle.hexline.specs.Said.{SaidBy};
-ghost use Rattle.packline.specs.Record.{packetRecord, lineRecord, badPlace, haltOf, refusedAt};
-
-// How many octets a packet line has at the most.
-const PACKET_ROOM: usize = 2048;
+ghost use Rattle.packline.specs.Record.{recordOf, recordAfter, badPlace, haltOf, refusedAt};
 
 // Why a program stops at a line.
 pub const GOES_ON: u8 = 0;
@@ -29,31 +29,16 @@ pub struct Halt {
     pub octet: u8,
 }
 
-// The record of a packet: the packet, its frames one a line, and an empty line.
-fn serve(
-    profile: Profile,
-    state: State,
-    packet: &[u8],
-    store: &mut [u8],
-    out: &mut [u8],
-    text: &mut [u8],
-    at: usize,
-) -> Written
-    ensures { λ r. ⌜ SaidBy (λ m. packetRecord profile m (now (packet .entry))) (λ m. packetAfter profile m (now (packet .entry))) state at store out text r ⌝ }
+// The frames at the front of the output buffer, one a line, then an empty line.
+fn close(written: usize, out: &[u8], text: &mut [u8], at: usize) -> usize
+    ensures { λ r. ⌜ SaysBy (linesOf (cut (take written (now (out .entry)))) ++ newline ∷ []) at text r ⌝ }
 {
-    let first = saying::line(text, at, packet);
-    let outcome = terminal::answer(profile, state, [0; 6], packet, store, out);
-    let written = outcome.written;
-    let end = packetline::put_frames(&out[..written], text, first);
-    let last = saying::end(text, end);
-    let next = outcome.state;
-    Written {
-        at: last,
-        state: next,
-    }
+    let frames = lines::front(out, written);
+    let end = packetline::put_frames(frames, text, at);
+    saying::end(text, end)
 }
 
-// The record of a line into a text from a place on; nothing where it is no packet line. What would stand past the text's end is dropped.
+// The record of a packet line into a text from a place on. What would stand past the text's end is dropped.
 pub fn record(
     profile: Profile,
     state: State,
@@ -63,16 +48,17 @@ pub fn record(
     text: &mut [u8],
     at: usize,
 ) -> Written
-    ensures { λ r. ⌜ SaidBy (λ m. lineRecord profile m (now (line .entry))) (λ m. lineAfter profile m (now (line .entry))) state at store out text r ⌝ }
+    ensures { λ r. ⌜ SaidBy (λ m. recordOf profile m (now (line .entry))) (λ m. recordAfter profile m (now (line .entry))) state at store out text r ⌝ }
 {
-    if !packetline::is_packet(line) {
-        let place = saying::kept(text, at);
-        return Written { at: place, state };
+    let behind = saying::upper(text, at, line);
+    let first = saying::end(text, behind);
+    let outcome = hexline::serve(profile, state, line, store, out);
+    let end = close(outcome.written, out, text, first);
+    let next = outcome.state;
+    Written {
+        at: end,
+        state: next,
     }
-    let mut packet = [0u8; PACKET_ROOM];
-    characters::text::decode(line, &mut packet, 0);
-    let count = line.len() / 2;
-    serve(profile, state, &packet[..count], store, out, text, at)
 }
 
 // The place of the first character of a line that is no digit, from 0; past the last one where all are digits.

@@ -1,6 +1,6 @@
 -- Laws of lines of octets, and of `Says`: nothing said, and one text after another, which is the two in a row.
 -- Assumes nothing.
-use mathlib.Core.Path.{_≡_, sym, ap, _∙_}
+use mathlib.Core.Path.{_≡_, sym, ap, subst, _∙_}
 use mathlib.Core.List.{List, [], _∷_, _++_}
 use Prim.Native.Nat.{ℕ, _+_, _*_, min}
 use native.Mathlib.Omega.{arith}
@@ -20,6 +20,10 @@ line-length s = length-append (textOf s) (newline ∷ []) ∙ ap (λ (n : ℕ). 
 -- Nothing is said, and the place is kept as `Says` has it.
 pub says-none : {d : List ℕ} {at r : ℕ} → r ≡ min at (length d + 1) → Says [] at d r d
 says-none {d = d} {at = at} e = record { at-is = omega (arith, e); text-is = sym (laid-none d at) }
+
+-- The same text, by another name.
+pub says-as : {s t d d′ : List ℕ} {at r : ℕ} → s ≡ t → Says s at d r d′ → Says t at d r d′
+says-as {d = d} {d′ = d′} {at = at} {r = r} e said = subst (λ (x : List ℕ). Says x at d r d′) e said
 
 -- Text said behind other text is both in a row, also where some of either found no room.
 pub says-append : {s t d₀ d₁ d₂ : List ℕ} {at r₁ r₂ : ℕ} → Says s at d₀ r₁ d₁ → Says t r₁ d₁ r₂ d₂ → Says (s ++ t) at d₀ r₂ d₂

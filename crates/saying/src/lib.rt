@@ -5,7 +5,7 @@ ghost use Prim.Native.Nat.{_+_, _<_, _^_, min};
 ghost use mathlib.Core.List.{[], _∷_};
 ghost use lib.ListN.{length};
 ghost use Rattle.octets.specs.Numbers.{octets16};
-ghost use Rattle.characters.specs.Digits.{textOf};
+ghost use Rattle.characters.specs.Digits.{textOf, upperText};
 ghost use Rattle.saying.specs.Text.{spaced, lineOf, SaysBy};
 
 // What stands between the groups of a line.
@@ -16,13 +16,7 @@ fn behind(room: usize, at: usize, count: usize) -> usize
     requires { ⌜ room + 1 < 2 ^ 64 ⌝ }
     ensures { λ r. ⌜ r ≡ min (at + count) (room + 1) ⌝ }
 {
-    if room < at {
-        return room + 1;
-    }
-    if room - at < count {
-        return room + 1;
-    }
-    at + count
+    octets::numbers::least_sum(at, count, room + 1)
 }
 
 // The place where nothing is added; the one past the buffer's end stands for any past it.
@@ -45,6 +39,14 @@ pub fn text(text: &mut [u8], at: usize, all: &[u8]) -> usize
     ensures { λ r. ⌜ SaysBy (now (all .entry)) at text r ⌝ }
 {
     octets::copy::put(text, at, all);
+    behind(text.len(), at, all.len())
+}
+
+// Adds some characters, the digits among them in upper case.
+pub fn upper(text: &mut [u8], at: usize, all: &[u8]) -> usize
+    ensures { λ r. ⌜ SaysBy (upperText (now (all .entry))) at text r ⌝ }
+{
+    characters::text::put_upper(text, at, all);
     behind(text.len(), at, all.len())
 }
 

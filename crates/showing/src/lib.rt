@@ -46,8 +46,8 @@ pub fn answer(
 fn answered(s: Session, packet: &[u8], store: &mut [u8], out: &mut [u8]) -> Outcome
     ensures { λ r. ⌜ AnsweredAt (inputAt (benchOf s store out) (now (packet .entry))) store out r ⌝ }
 {
-    let stored = least(s.stored, store.len());
-    let room = least(s.room, out.len());
+    let stored = octets::numbers::least(s.stored, store.len());
+    let room = octets::numbers::least(s.room, out.len());
     let time = s.time;
     terminal::answer(
         s.profile,
@@ -57,13 +57,6 @@ fn answered(s: Session, packet: &[u8], store: &mut [u8], out: &mut [u8]) -> Outc
         &mut store[..stored],
         &mut out[..room],
     )
-}
-
-// The lesser of two numbers.
-fn least(a: usize, b: usize) -> usize
-    ensures { λ r. ⌜ r ≡ min a b ⌝ }
-{
-    if a < b { a } else { b }
 }
 
 // R: the reader reads a packet.
@@ -105,11 +98,11 @@ fn order_in(given: &[u8]) -> Order
     ensures { λ r. ⌜ r ≡ orderIn (now (given .entry)) ⌝ }
 {
     Order {
-        pid: session::one(given, 0),
+        pid: octets::numbers::one(given, 0),
         count: octets::numbers::word16_at(given, 1),
-        ack: session::one(given, 3),
-        kind: session::one(given, 4),
-        subtype: session::one(given, 5),
+        ack: octets::numbers::one(given, 3),
+        kind: octets::numbers::one(given, 4),
+        subtype: octets::numbers::one(given, 5),
     }
 }
 

@@ -1,7 +1,6 @@
 -- Laws of the words behind a place of a line, from one word to the next, and of what they state.
 -- Assumes nothing.
 use mathlib.Core.Path.{_≡_, refl, sym, ap, _∙_}
-use mathlib.Core.Bool.{false, _&&_}
 use mathlib.Core.List.{List, [], _∷_}
 use Prim.Native.Nat.{ℕ, zero, suc, _+_, _/_, _%_, _≤_, _<_}
 use native.Mathlib.Numerals.{add-one}
@@ -9,16 +8,15 @@ use native.Mathlib.Omega.{arith}
 use lib.ListN.{length, drop, length-append}
 use lib.Seq.{drop-drop, drop-nil}
 use lib.Dec.{eqb, leb}
-use borrow.Author.Tests.{lt-ltb, le-ltb, leb-true, ne-eqb}
+use borrow.Author.Tests.{lt-ltb, le-ltb, leb-true}
 use Rattle.laws.specs.Fold.{joined}
 use Rattle.laws.proofs.Order.{by-order}
-use Rattle.laws.proofs.Tests.{by-test, and-right}
+use Rattle.laws.proofs.Tests.{by-test}
 use Rattle.octets.specs.declared.copy.Span.{Span}
 use Rattle.octets.specs.Copy.{between}
 use Rattle.octets.proofs.Between.{between-most}
 use Rattle.characters.specs.Digits.{allDigits, octetsIn}
 use Rattle.characters.proofs.Texts.{octets-length}
-use Rattle.map.specs.declared.Flags.{Flags}
 use Rattle.words.specs.Words.{blanksIn, plainIn, spanOf}
 use Rattle.words.proofs.Fronts.{blanks-left}
 use Rattle.words.proofs.Words.{span-walked, span-ahead, words-next}
@@ -26,7 +24,7 @@ use Rattle.numerals.specs.declared.Numeral.{Numeral}
 use Rattle.numerals.specs.declared.Numeral.the-variants.{Is, Large, Bad}
 use Rattle.numerals.specs.Numbers.{numeralOf}
 use Rattle.stating.specs.Faults.{fine, putDigits, putOdd}
-use Rattle.stating.specs.Stating.{headOf, tailOf, wordsBehind, behindWord, numeralFault, numeralValue, numberFault, numberValue, flagNamed, hasFlag, withFlag, noFlags, flagsFrom, digitsFrom, octetsStated}
+use Rattle.stating.specs.Stating.{headOf, tailOf, wordsBehind, behindWord, numeralFault, numeralValue, numberFault, numberValue, digitsFrom, octetsStated}
 
 -- ---- words, from one to the next
 
@@ -104,27 +102,6 @@ pub number-bound : (most missing large : ℕ) (ws : List (List ℕ)) → fine < 
 unfolding numberFault numberValue
 number-bound most missing large [] h e = omega arith
 number-bound most missing large (w ∷ ws) h e = numeral-bound most large (numeralOf w) h e
-
--- ---- flags
-
--- Where connection is not among the known flags, it is never set.
-connection-kept : (known unknown twice : ℕ) (f : Flags) (ws : List (List ℕ)) → known < 4
-    → flagsFrom known unknown twice f ws .flags .connection ≡ f .connection
-unfolding flagsFrom
-connection-kept known unknown twice f [] h = refl
-connection-kept known unknown twice f (w ∷ ws) h =
-    by-test (leb 1 (flagNamed w) && leb (flagNamed w) known)
-    (λ t.
-    by-test (hasFlag f (flagNamed w))
-    (λ s. rw (t, s) refl)
-    (λ e.
-    let low : flagNamed w ≤ known = leb-true (flagNamed w) known (and-right (leb 1 (flagNamed w)) (leb (flagNamed w) known) t) in
-    let other : eqb (flagNamed w) 4 ≡ false = ne-eqb (flagNamed w) 4 (λ k. omega arith) in
-    rw (t, e) (connection-kept known unknown twice (withFlag f (flagNamed w)) ws h ∙ rw other refl)))
-    (λ e. rw e refl)
-
-pub flags-known : (unknown twice : ℕ) (ws : List (List ℕ)) → flagsFrom 3 unknown twice noFlags ws .flags .connection ≡ false
-flags-known unknown twice ws = connection-kept 3 unknown twice noFlags ws (omega arith)
 
 -- ---- octets
 

@@ -1,3 +1,1 @@
-pub mod Place
 pub mod Tasks
-pub mod Did

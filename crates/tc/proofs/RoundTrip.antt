@@ -11,7 +11,7 @@ use lib.Dec.{eqb, leb}
 use lib.Seq.{take-add, take-at}
 use borrow.Author.Tests.{le-leb, eq-eqb, leb-true, eqb-true}
 use Rattle.octets.specs.Numbers.{octet, word16, octets16}
-use Rattle.octets.specs.Fields.{packetId, idOf, sequence, controlOf, header, headerOf, apidOf}
+use Rattle.fields.specs.Fields.{packetId, idOf, sequence, controlOf, header, headerOf, apidOf}
 use Rattle.octets.proofs.Between.{between-eq, between-length}
 use Rattle.octets.proofs.Words.{word16-behind, octets16-of-word16, run, run-drop, run-take}
 use Rattle.checks.specs.declared.Verdict.the-variants.{Accepted}

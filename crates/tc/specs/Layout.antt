@@ -3,7 +3,7 @@ use mathlib.Core.List.{List, [], _∷_, _++_}
 use Prim.Native.Nat.{ℕ, _+_, _-_}
 use lib.ListN.{length, take}
 use Rattle.octets.specs.Numbers.{octet, word16, octets16}
-use Rattle.octets.specs.Fields.{packetId, idOf, sequence, controlOf, header, headerOf}
+use Rattle.fields.specs.Fields.{packetId, idOf, sequence, controlOf, header, headerOf}
 use Rattle.octets.specs.declared.copy.Span.{Span}
 use Rattle.octets.specs.Copy.{placed}
 use Rattle.crc.specs.Register.{crcOf}

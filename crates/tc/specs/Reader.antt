@@ -6,10 +6,10 @@ use Prim.Native.Nat.{ℕ, _+_, _-_, min}
 use lib.ListN.{length}
 use lib.Dec.{leb, eqb}
 use Rattle.octets.specs.Numbers.{octet, word16}
-use Rattle.octets.specs.Fields.{packetId, sequence, header}
-use Rattle.octets.specs.declared.fields.PacketId.{PacketId}
-use Rattle.octets.specs.declared.fields.Sequence.{Sequence}
-use Rattle.octets.specs.declared.fields.Header.{Header}
+use Rattle.fields.specs.Fields.{packetId, sequence, header}
+use Rattle.fields.specs.declared.PacketId.{PacketId}
+use Rattle.fields.specs.declared.Sequence.{Sequence}
+use Rattle.fields.specs.declared.Header.{Header}
 use Rattle.checks.specs.declared.Verdict.{Verdict}
 use Rattle.checks.specs.declared.Check.the-variants.{Short, Length, Control, Header as BadHeader}
 use Rattle.checks.specs.declared.Refusal.{Refusal}

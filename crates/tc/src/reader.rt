@@ -6,15 +6,15 @@ use crate::PACKET_MOST;
 use crate::Reading;
 use checks::Check;
 use checks::Verdict;
+use fields::Header;
+use fields::PacketId;
+use fields::Sequence;
 use octets::copy::Span;
-use octets::fields::Header;
-use octets::fields::PacketId;
-use octets::fields::Sequence;
 ghost use mathlib.Core.Path.{_≡_};
 ghost use Prim.Native.Nat.{_-_, min};
 ghost use lib.ListN.{length};
 ghost use Rattle.octets.specs.Numbers.{octet, word16};
-ghost use Rattle.octets.specs.Fields.{packetId, sequence, header};
+ghost use Rattle.fields.specs.Fields.{packetId, sequence, header};
 ghost use Rattle.tc.specs.Layout.{errorControl, covered, fieldsOf, dataSpan};
 ghost use Rattle.tc.specs.Reader.{lengthRight, firstFault, headerFault, judged, Reads};
 
@@ -155,28 +155,21 @@ fn first_fault(id: PacketId, control: Sequence, head: Header) -> u16
 fn id_of(p: &[u8]) -> PacketId
     ensures { λ r. ⌜ r ≡ packetId (word16 (now (p .entry)) 0) ⌝ }
 {
-    octets::fields::split_id(octets::numbers::word16_at(p, 0))
+    fields::split_id(octets::numbers::word16_at(p, 0))
 }
 
 // The sequence control's fields.
 fn sequence_of(p: &[u8]) -> Sequence
     ensures { λ r. ⌜ r ≡ sequence (word16 (now (p .entry)) 2) ⌝ }
 {
-    octets::fields::split_sequence(octets::numbers::word16_at(p, 2))
+    fields::split_sequence(octets::numbers::word16_at(p, 2))
 }
 
 // The fields of the first octet of the data field header.
 fn header_of(p: &[u8]) -> Header
     ensures { λ r. ⌜ r ≡ header (octet (now (p .entry)) 6) ⌝ }
 {
-    octets::fields::split_header(octets::numbers::octet_at(p, 6))
-}
-
-// One octet at a place.
-fn one(p: &[u8], at: usize) -> u8
-    ensures { λ r. ⌜ r ≡ octet (now (p .entry)) at ⌝ }
-{
-    octets::numbers::octet_at(p, at) as u8
+    fields::split_header(octets::numbers::octet_at(p, 6))
 }
 
 // The fields at their places.
@@ -191,8 +184,8 @@ fn fields(p: &[u8]) -> Fields
         count: control.count,
         checksum: (head.checksum % 2) as u8,
         ack: (head.ack % 16) as u8,
-        kind: one(p, 7),
-        subtype: one(p, 8),
-        pad: one(p, 9),
+        kind: octets::numbers::one(p, 7),
+        subtype: octets::numbers::one(p, 8),
+        pad: octets::numbers::one(p, 9),
     }
 }

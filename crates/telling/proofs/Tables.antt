@@ -1,15 +1,15 @@
 -- Laws of a table in text: the walk to the end of its first row, its rows by number, and a table that is made of rows.
 -- Assumes nothing.
-use mathlib.Core.Path.{_≡_, refl, sym, ap, subst, _∙_}
+use mathlib.Core.Path.{_≡_, refl, ap, subst, _∙_}
 use mathlib.Core.Bool.{Bool, true, false, _&&_}
 use mathlib.Core.List.{List, [], _∷_, _++_}
 use Prim.Native.Nat.{ℕ, zero, suc, _+_, _-_, _≤_, _<_}
-use native.Mathlib.Numerals.{add-one}
 use native.Mathlib.Omega.{arith}
 use lib.ListN.{length, getD, take, drop, length-drop, drop-of-length-le}
-use lib.Seq.{drop-cons, take-all, take-at, drop-append-add}
+use lib.Seq.{take-all, take-at, drop-append-add}
 use lib.Dec.{eqb}
 use borrow.Author.Tests.{eq-eqb, ne-eqb, eqb-true}
+use Rattle.laws.proofs.Lists.{drop-next}
 use Rattle.laws.proofs.Tests.{by-test, both}
 use Rattle.lines.specs.Lines.{newline}
 use Rattle.saying.specs.Text.{Says}
@@ -19,7 +19,7 @@ use Rattle.telling.specs.Rows.{rowLength, rowOf}
 
 module _ (s : List ℕ) (at : ℕ) (h : at < length s) where
   here : drop at s ≡ getD s at 0 ∷ drop (at + 1) s
-  here = drop-cons s at 0 h ∙ ap (λ (n : ℕ). getD s at 0 ∷ drop n s) (sym (add-one at))
+  here = drop-next s at h
 
   pub length-pass : (getD s at 0 ≡ newline → ⊥) → at + 1 + rowLength (drop (at + 1) s) ≡ at + rowLength (drop at s)
   unfolding rowLength

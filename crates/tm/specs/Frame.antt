@@ -4,7 +4,7 @@ use mathlib.Core.List.{List, [], _∷_, _++_}
 use Prim.Native.Nat.{ℕ, zero, suc, _+_, _-_, _%_}
 use lib.ListN.{length, take, drop}
 use Rattle.octets.specs.Numbers.{octet, word16, octets16}
-use Rattle.octets.specs.Fields.{idOf, controlOf, apidOf}
+use Rattle.fields.specs.Fields.{idOf, controlOf, apidOf}
 use Rattle.octets.specs.Copy.{laid}
 use Rattle.tm.specs.declared.Stamp.{Stamp}
 use Rattle.counts.specs.declared.Counts.{Counts}

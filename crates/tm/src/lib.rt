@@ -1,6 +1,6 @@
 // Telemetry packets of document 01: the layout of a frame, and where it ends.
-use octets::fields::PacketId;
-use octets::fields::Sequence;
+use fields::PacketId;
+use fields::Sequence;
 ghost use mathlib.Core.Path.{_≡_};
 ghost use Prim.Native.Nat.{_+_, min};
 ghost use lib.ListN.{length, drop};
@@ -28,14 +28,14 @@ pub struct Stamp {
 pub fn head(stamp: Stamp, octets: usize) -> [u8; 16]
     ensures { λ r. ⌜ r ≡ headOf stamp octets ⌝ }
 {
-    let apid = octets::fields::join_apid(stamp.pid as u16, counts::category(stamp.kind));
-    let id = octets::numbers::octets_of16(octets::fields::join_id(PacketId {
+    let apid = fields::join_apid(stamp.pid as u16, counts::category(stamp.kind));
+    let id = octets::numbers::octets_of16(fields::join_id(PacketId {
         version: 0,
         kind: 0,
         header: 1,
         apid,
     }));
-    let control = octets::numbers::octets_of16(octets::fields::join_sequence(Sequence {
+    let control = octets::numbers::octets_of16(fields::join_sequence(Sequence {
         flags: 3,
         count: stamp.count,
     }));

@@ -10,7 +10,7 @@ use map::Flags;
 use map::Profile;
 use map::Rights;
 use map::end_of;
-use map::sound::is_sound;
+use sound::is_sound;
 
 // Whether what is set in the narrower is set in the wider.
 fn is_kept(wide: bool, narrow: bool) -> bool

@@ -4,12 +4,11 @@ use mathlib.Core.Path.{_≡_, refl, sym, ap, _∙_}
 use mathlib.Core.Bool.{Bool, true, false, cond, not, _||_}
 use mathlib.Core.List.{List, [], _∷_}
 use Prim.Native.Nat.{ℕ, suc, _+_, _≤_, _<_}
-use native.Mathlib.Numerals.{add-one}
 use native.Mathlib.Omega.{arith}
 use lib.ListN.{length, getD, drop, drop-of-length-le}
-use lib.Seq.{drop-cons}
 use lib.Dec.{eqb}
 use borrow.Author.Tests.{eq-eqb, ne-eqb}
+use Rattle.laws.proofs.Lists.{drop-next}
 use Rattle.laws.proofs.Tests.{by-test, or-right}
 use Rattle.words.specs.Words.{isBlank, hash, blanksIn, plainIn}
 
@@ -34,7 +33,7 @@ module _ (test : ℕ → Bool) where
   -- The walk that counts them, at a place.
   module _ (s : List ℕ) (at : ℕ) (h : at < length s) where
     here : drop at s ≡ getD s at 0 ∷ drop (at + 1) s
-    here = drop-cons s at 0 h ∙ ap (λ (n : ℕ). getD s at 0 ∷ drop n s) (sym (add-one at))
+    here = drop-next s at h
 
     front-pass : test (getD s at 0) ≡ true → at + 1 + frontIn test (drop (at + 1) s) ≡ at + frontIn test (drop at s)
     unfolding frontIn

@@ -21,14 +21,6 @@ same-true (c ∷ a) (d ∷ b) t =
     let halves : (eqb c d ≡ true) × (sameText a b ≡ true) = both (eqb c d) (sameText a b) t in
     ap₂ (λ (x : ℕ) (r : List ℕ). x ∷ r) (eqb-true c d (halves .0)) (same-true a b (halves .1))
 
-pub same-refl : (a : List ℕ) → sameText a a ≡ true
-unfolding sameText
-same-refl [] = refl
-same-refl (c ∷ a) = rw (eq-eqb c c refl) (same-refl a)
-
-pub same-false : (a b : List ℕ) → sameText a b ≡ false → a ≡ b → ⊥
-same-false a b e s = false≢true (sym e ∙ ap (λ (r : List ℕ). sameText a r) (sym s) ∙ same-refl a)
-
 -- ---- a walk over both
 
 -- Texts of different lengths differ.

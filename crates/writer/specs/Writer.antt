@@ -5,7 +5,7 @@ use mathlib.Core.List.{List, [], _∷_}
 use Prim.Native.Nat.{ℕ, _+_}
 use lib.ListN.{length}
 use lib.Dec.{leb}
-use Rattle.octets.specs.Fields.{apidOf}
+use Rattle.fields.specs.Fields.{apidOf}
 use Rattle.octets.specs.Copy.{laid}
 use Rattle.checks.specs.Table.{Row, answer}
 use Rattle.tc.specs.declared.Fields.{Fields}

@@ -1,7 +1,7 @@
 // The writer: a packet of category 12, checksum flag 1 and pad 0, laid at the front of a buffer.
-use octets::fields::Header;
-use octets::fields::PacketId;
-use octets::fields::Sequence;
+use fields::Header;
+use fields::PacketId;
+use fields::Sequence;
 use octets::numbers::VALUES;
 use tc::AROUND;
 use tc::CATEGORY;
@@ -121,19 +121,19 @@ fn head(order: Order, octets: u16) -> [u8; 10]
     requires { ⌜ octets ≤ dataMost ⌝ }
     ensures { λ r. ⌜ r ≡ headOf (fieldsFor order) octets ⌝ }
 {
-    let apid = octets::fields::join_apid(order.pid as u16, CATEGORY);
-    let id = octets::fields::join_id(PacketId {
+    let apid = fields::join_apid(order.pid as u16, CATEGORY);
+    let id = fields::join_id(PacketId {
         version: 0,
         kind: 1,
         header: 1,
         apid,
     });
-    let control = octets::fields::join_sequence(Sequence {
+    let control = fields::join_sequence(Sequence {
         flags: 3,
         count: order.count,
     });
     let length = octets + (AROUND as u16) - 7;
-    let first = octets::fields::join_header(Header {
+    let first = fields::join_header(Header {
         version: 0,
         checksum: 1,
         ack: order.ack as u16,

@@ -5,7 +5,7 @@ use mathlib.Core.Path.{_≡_, sym, ap, _∙_}
 use denote.Ref.{now}
 use Rattle.laws.proofs.Tests.{refused, passed}
 use Rattle.octets.specs.Copy.{placed}
-use Rattle.octets.specs.Fields.{apidOf}
+use Rattle.fields.specs.Fields.{apidOf}
 use Rattle.tc.specs.Layout.{category}
 use Rattle.checks.specs.declared.Check.the-variants.{Subtype}
 use Rattle.requests.specs.declared.Asked.{Asked}

@@ -2,10 +2,10 @@
 -- Assumes nothing.
 use Rattle.lines.specs.Cuts.{endsLine}
 use Rattle.lines.proofs.Whole.{piece-on, piece-line, piece-long}
-use Rattle.tasks.specs.Place.{Place, placeOf}
+use Rattle.desk.specs.Place.{Place, placeOf}
 use Rattle.tasks.specs.Tasks.{taskProgram}
 use Rattle.saying.proofs.Saying.{says-none}
-use Rattle.tasks.proofs.Doing.{did-alone, did-as}
+use Rattle.desk.proofs.Doing.{did-alone, did-as}
 use denote.Ref.{now}
 use borrow.Author.Tests.{not-true, not-false}
 use mathlib.Core.Bool.{true}

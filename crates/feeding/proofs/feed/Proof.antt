@@ -3,7 +3,7 @@
 use Rattle.lines.specs.Turn.{turnOf}
 use Rattle.lines.proofs.Walks.{feeds}
 use Rattle.feeding.specs.Feed.{pieceProgram}
-use Rattle.tasks.specs.Place.{placeOf}
+use Rattle.desk.specs.Place.{placeOf}
 use denote.Ref.{now}
 use lib.ListN.{length}
 use Prim.Native.Nat.{ℕ}

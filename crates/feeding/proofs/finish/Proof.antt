@@ -1,9 +1,9 @@
 -- `feeding::finish` meets its contract.
 -- Assumes nothing.
 use Rattle.lines.proofs.Walks.{finishes-none, finishes-last}
-use Rattle.tasks.specs.Place.{Place, placeOf}
+use Rattle.desk.specs.Place.{Place, placeOf}
 use Rattle.feeding.specs.Feed.{pieceProgram}
-use Rattle.tasks.proofs.Doing.{did-after}
+use Rattle.desk.proofs.Doing.{did-after}
 use denote.Ref.{now}
 use mathlib.Core.Path.{sym, _∙_}
 use borrow.Author.Needs.{needs}

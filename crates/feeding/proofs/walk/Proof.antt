@@ -6,7 +6,7 @@ use Rattle.lines.specs.Turn.{turnOf}
 use Rattle.lines.proofs.Walks.{Walking, walking-first, walking-more, walking-full, walking-less, walking-next}
 use Rattle.hexline.specs.Whole.{answerRoom}
 use Rattle.feeding.specs.Feed.{pieceProgram}
-use Rattle.tasks.proofs.Doing.{did-after}
+use Rattle.desk.proofs.Doing.{did-after}
 use Rattle.feeding.proofs.Streaming.{pieces-task}
 use denote.Ref.{now}
 use lib.ListN.{length, drop}

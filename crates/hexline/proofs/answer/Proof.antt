@@ -1,25 +1,13 @@
 -- `hexline::answer` meets its contract.
 -- Assumes nothing.
-use Rattle.hexline.proofs.Serving.{Decoded, decoded, line-refused, line-served}
-use Rattle.packetline.specs.Packet.{isPacket}
+use Rattle.hexline.proofs.Serving.{packet-said, line-refused, line-served}
+use Rattle.hexline.specs.Line.{Station, packetIn}
 use denote.Ref.{now}
 use borrow.Author.Tests.{not-true, not-false}
-use lib.Seq.{length-take-le}
-use lib.ListN.{length, take, replicate}
-use Prim.Native.Nat.{_/_}
-use mathlib.Core.Bool.{true}
-use mathlib.Core.Path.{_≡_, refl, sym, _∙_}
+use mathlib.Core.Path.{sym, _∙_}
 use borrow.Author.Needs.{needs}
 use Rattle.hexline.proofs.answer.Statement.{statement}
 use Rattle.hexline.proofs.answer.Tie as tie
-
--- the line is a packet line
-good : (e : tie.Else1) → isPacket (now (e .before .before .before .before .before .before .args .line)) ≡ true
-good e = sym (e .before .is-packet .ensures) ∙ not-false _ (e .if1 .left)
-
--- its octets stand at the front of the packet buffer
-read : (d : tie.After-decode) → Decoded (now (d .before .before .before .before .before .before .before .before .args .line)) (d .decode .last .1 .0) (length (now (d .before .before .before .before .before .before .before .before .args .line)) / 2)
-read d = decoded (now (d .before .before .before .before .before .before .before .before .args .line)) (replicate 2048 0) (d .decode .last .1 .0) _ (good (d .before .before)) refl refl (d .decode .ensures)
 
 is-packet-requires : tie.Need-is-packet-requires
 is-packet-requires c κs = search needs
@@ -38,20 +26,11 @@ returns c =
     line-refused (a .profile) (record { machine = record { state = a .state; store = now (a .store) }; out = now (a .out) }) (now (a .line)) (a .at) (k .put-closing .result) (now (a .text)) (k .put-closing .last .1 .1 .0)
     (sym (t .before .is-packet .ensures) ∙ not-true _ (t .if1 .taken)) (k .put-closing .ensures)
 
-slice-aggregate-decode : tie.Need-slice-aggregate-decode
-slice-aggregate-decode c = search needs
-
-decode-requires : tie.Need-decode-requires
-decode-requires c κs = search needs
-
-array-share-prefix-packet : tie.Need-array-share-prefix-packet
-array-share-prefix-packet c = read (c .before) .inside
-
-slice-aggregate-serve : tie.Need-slice-aggregate-serve
-slice-aggregate-serve c = sym (length-take-le _ (c .before .before .decode .last .1 .0) (read (c .before .before) .inside))
-
 serve-requires : tie.Need-serve-requires
 serve-requires c κs = search needs
+
+close-requires : tie.Need-close-requires
+close-requires c κs = search needs
 
 same-length-2 : tie.Need-same-length-2
 same-length-2 c = search needs
@@ -64,12 +43,13 @@ same-length-4 c = search needs
 
 returns-2 : tie.Need-returns-2
 returns-2 c =
-    let v = c .before .before .before .before .before .before in
-    let d = v .before .before .before .before .before .before in
-    let e = d .before .before in
+    let v = c .before .before .before in
+    let k = v .before .before .before .before .before .before .before in
+    let e = k .before .before .before in
     let a = e .before .before .before .before .before .before .args in
-    line-served (a .profile) (record { machine = record { state = a .state; store = now (a .store) }; out = now (a .out) }) (now (a .line)) (take (length (now (a .line)) / 2) (d .decode .last .1 .0)) (a .at) (now (a .text))
-    (v .serve .result) (v .serve .last .1 .1 .1 .0) (v .serve .last .1 .1 .1 .1 .0) (v .serve .last .1 .1 .1 .1 .1 .0) (good e) (read d .octets) (v .serve .ensures)
+    let m : Station = record { machine = record { state = a .state; store = now (a .store) }; out = now (a .out) } in
+    line-served (a .profile) m (now (a .line)) (sym (e .before .is-packet .ensures) ∙ not-false _ (e .if1 .left))
+    (packet-said (a .profile) m (packetIn (now (a .line))) (k .serve .ensures) (v .close .ensures))
 
 pub answer-spec : {M : Type 1} → statement M
 answer-spec =
@@ -79,11 +59,8 @@ answer-spec =
     put-closing-requires
     same-length
     returns
-    slice-aggregate-decode
-    decode-requires
-    array-share-prefix-packet
-    slice-aggregate-serve
     serve-requires
+    close-requires
     same-length-2
     same-length-3
     same-length-4

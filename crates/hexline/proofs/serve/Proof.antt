@@ -1,38 +1,31 @@
 -- `hexline::serve` meets its contract.
 -- Assumes nothing.
-use Rattle.hexline.proofs.Serving.{Front, answered-front, packet-said}
-use Rattle.hexline.specs.Line.{packetInput}
+use Rattle.terminal.specs.Outcome.{Answered}
+use Rattle.hexline.specs.Line.{Station, packetInput, packetIn}
+use Rattle.hexline.proofs.Serving.{decoded}
 use denote.Ref.{now}
-use lib.Seq.{length-take-le}
-use mathlib.Core.Path.{sym}
+use lib.ListN.{replicate}
+use mathlib.Core.List.{List}
+use mathlib.Core.Path.{_≡_, refl, subst, _∙_}
+use Prim.Native.Nat.{ℕ}
 use borrow.Author.Needs.{needs}
 use Rattle.hexline.proofs.serve.Statement.{statement}
 use Rattle.hexline.proofs.serve.Tie as tie
 
--- what stands at the front of the output buffer after the terminal's answer
-front : (k : tie.After-answer)
-    → Front (packetInput (k .before .before .before .before .before .before .before .args .profile)
-    (record { machine = record { state = k .before .before .before .before .before .before .before .args .state; store = now (k .before .before .before .before .before .before .before .args .store) }; out = now (k .before .before .before .before .before .before .before .args .out) })
-    (now (k .before .before .before .before .before .before .before .args .packet)))
-    (k .answer .result) (k .answer .last .1 .1 .1 .1 .1 .0)
-front k = answered-front _ (k .answer .result) (k .answer .last .1 .1 .1 .1 .0) (k .answer .last .1 .1 .1 .1 .1 .0) (k .answer .ensures)
+slice-aggregate-decode : tie.Need-slice-aggregate-decode
+slice-aggregate-decode c = search needs
+
+decode-requires : tie.Need-decode-requires
+decode-requires c κs = search needs
+
+slice-aggregate-front : tie.Need-slice-aggregate-front
+slice-aggregate-front c = search needs
+
+front-requires : tie.Need-front-requires
+front-requires c κs = search needs
 
 answer-requires : tie.Need-answer-requires
 answer-requires c κs = search needs
-
-slice-reshare-prefix-put-frames : tie.Need-slice-reshare-prefix-put-frames
-slice-reshare-prefix-put-frames c = front (c .before .before .before .before) .inside
-
-slice-aggregate-put-frames : tie.Need-slice-aggregate-put-frames
-slice-aggregate-put-frames c =
-    let k = c .before .before .before .before .before in
-    sym (length-take-le (k .answer .result .written) (k .answer .last .1 .1 .1 .1 .1 .0) (front k .inside))
-
-put-frames-requires : tie.Need-put-frames-requires
-put-frames-requires c κs = search needs
-
-put-verdict-requires : tie.Need-put-verdict-requires
-put-verdict-requires c κs = search needs
 
 same-length : tie.Need-same-length
 same-length c = search needs
@@ -40,29 +33,25 @@ same-length c = search needs
 same-length-2 : tie.Need-same-length-2
 same-length-2 c = search needs
 
-same-length-3 : tie.Need-same-length-3
-same-length-3 c = search needs
-
 returns : tie.Need-returns
 returns c =
-    let v = c .before .before .before in
-    let f = v .before .before .before .before in
-    let k = f .before .before .before .before .before .before .before in
-    let a = k .before .before .before .before .before .before .before .args in
-    packet-said (a .profile) (record { machine = record { state = a .state; store = now (a .store) }; out = now (a .out) }) (now (a .packet)) (a .at) (now (a .text))
-    (k .answer .result) (k .answer .last .1 .1 .1 .1 .0) (k .answer .last .1 .1 .1 .1 .1 .0) (f .put-frames .last .1 .0) (v .put-verdict .last .1 .0)
-    (f .put-frames .result) (v .put-verdict .result) (k .answer .ensures) (f .put-frames .ensures) (v .put-verdict .ensures)
+    let k = c .before .before .before .before in
+    let f = k .before .before .before in
+    let d = f .before .before .before in
+    let a = d .before .before .before .before .before .args in
+    let m : Station = record { machine = record { state = a .state; store = now (a .store) }; out = now (a .out) } in
+    let e : now (f .front .result) ≡ packetIn (now (a .line)) = f .front .ensures ∙ decoded (now (a .line)) (replicate 2048 0) (d .decode .last .1 .0) refl (d .decode .ensures) in
+    subst (λ (x : List ℕ). Answered (packetInput (a .profile) m x) (k .answer .result) (k .answer .last .1 .1 .1 .1 .0) (k .answer .last .1 .1 .1 .1 .1 .0)) e (k .answer .ensures)
 
 pub serve-spec : {M : Type 1} → statement M
 serve-spec =
     tie.close
     (tie.spec
+    slice-aggregate-decode
+    decode-requires
+    slice-aggregate-front
+    front-requires
     answer-requires
-    slice-reshare-prefix-put-frames
-    slice-aggregate-put-frames
-    put-frames-requires
-    put-verdict-requires
     same-length
     same-length-2
-    same-length-3
     returns)

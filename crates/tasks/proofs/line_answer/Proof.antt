@@ -1,6 +1,6 @@
 -- `tasks::line_answer` meets its contract.
 -- Assumes nothing.
-use Rattle.tasks.proofs.Doing.{did-station}
+use Rattle.desk.proofs.Doing.{did-station}
 use borrow.Author.Needs.{needs}
 use Rattle.tasks.proofs.line_answer.Statement.{statement}
 use Rattle.tasks.proofs.line_answer.Tie as tie

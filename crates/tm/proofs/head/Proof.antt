@@ -7,7 +7,7 @@ use native.Mathlib.Omega.{arith}
 use lib.ListN.{length, getD}
 use borrow.Author.Needs.{needs}
 use Rattle.octets.specs.Numbers.{octets16}
-use Rattle.octets.specs.Fields.{idOf, controlOf, apidOf}
+use Rattle.fields.specs.Fields.{idOf, controlOf, apidOf}
 use Rattle.octets.proofs.Words.{run, run-all}
 use Rattle.counts.specs.Counts.{categoryOf}
 use Rattle.tm.specs.Frame.{frameHead, uncounted, headOf}

@@ -4,7 +4,7 @@ use mathlib.Core.List.{[], _∷_}
 use mathlib.Core.Path.{_≡_, ap, _∙_}
 use Prim.Native.Nat.{ℕ, _+_, _-_, _/_, _%_}
 use native.Mathlib.Omega.{arith}
-use Rattle.octets.specs.Fields.{idOf, headerOf, apidOf}
+use Rattle.fields.specs.Fields.{idOf, headerOf, apidOf}
 use Rattle.tc.specs.Layout.{category, around, headOf}
 use borrow.Author.Needs.{needs}
 use Rattle.writer.proofs.head.Statement.{statement}

@@ -1,5 +1,6 @@
-//! `race ROUNDS INPUT COMMAND.. -- COMMAND..` runs two commands in turn on the same input and prints
-//! the median time of each and their ratio. What they write has to be the same.
+//! `race same ROUNDS INPUT NAME NAME COMMAND.. -- COMMAND..` runs two commands in turn on the same
+//! input and prints the median time of each and their ratio. What they write has to be the same;
+//! with `beside` in place of `same` it need not be.
 //! `race peak OCTETS COMMAND..` feeds a command that many digits without a newline and prints the
 //! most memory it had.
 
@@ -12,49 +13,64 @@ use std::time::{Duration, Instant};
 
 use second::program;
 
-const USAGE: &str = "usage: race ROUNDS INPUT COMMAND.. -- COMMAND..\n       race peak OCTETS COMMAND..";
+const USAGE: &str = "usage: race same|beside ROUNDS INPUT NAME NAME COMMAND.. -- COMMAND..\n       race peak OCTETS COMMAND..";
+
+/// A command, and what it is called where its time is printed.
+struct Runner<'a> {
+    name: &'a str,
+    words: &'a [String],
+}
 
 fn main() -> ExitCode {
     let arguments: Vec<String> = env::args().skip(1).collect();
-    let done = match arguments.as_slice() {
-        [first, octets, command @ ..] if first == "peak" && !command.is_empty() => match octets.parse() {
-            Ok(octets) => peak(octets, command),
-            Err(_) => return program::fail(USAGE),
-        },
-        [rounds, input, commands @ ..] => {
-            let Some(between) = commands.iter().position(|word| word == "--") else {
-                return program::fail(USAGE);
-            };
-            let (ours, theirs) = (&commands[..between], &commands[between + 1..]);
-            match rounds.parse() {
-                Ok(rounds) if rounds > 0 && !ours.is_empty() && !theirs.is_empty() => race(rounds, input, ours, theirs),
-                _ => return program::fail(USAGE),
-            }
-        }
-        _ => return program::fail(USAGE),
-    };
-    match done {
-        Ok(()) => ExitCode::SUCCESS,
-        Err(error) => program::fail(&error.to_string()),
+    match run(&arguments) {
+        Some(Ok(())) => ExitCode::SUCCESS,
+        Some(Err(error)) => program::fail(&error.to_string()),
+        None => program::fail(USAGE),
     }
 }
 
-fn race(rounds: usize, input: &str, ours: &[String], theirs: &[String]) -> io::Result<()> {
-    // The first run of each warms up, and shows that both do the same work.
-    if output(ours, input)? != output(theirs, input)? {
+/// What the arguments ask for, or nothing where they ask for nothing that there is.
+fn run(arguments: &[String]) -> Option<io::Result<()>> {
+    match arguments {
+        [first, octets, command @ ..] if first == "peak" && !command.is_empty() => Some(peak(octets.parse().ok()?, command)),
+        [how, rounds, input, first, second, commands @ ..] => {
+            let same = match how.as_str() {
+                "same" => true,
+                "beside" => false,
+                _ => return None,
+            };
+            let rounds = rounds.parse().ok().filter(|&rounds| rounds > 0)?;
+            let between = commands.iter().position(|word| word == "--")?;
+            let runners =
+                [Runner { name: first, words: &commands[..between] }, Runner { name: second, words: &commands[between + 1..] }];
+            if runners.iter().any(|runner| runner.words.is_empty()) {
+                return None;
+            }
+            Some(race(same, rounds, input, &runners))
+        }
+        _ => None,
+    }
+}
+
+fn race(same: bool, rounds: usize, input: &str, runners: &[Runner; 2]) -> io::Result<()> {
+    // The first run of each warms up, and shows that both work, and do the same where they are to.
+    let [first, second] = [output(runners[0].words, input)?, output(runners[1].words, input)?];
+    if same && first != second {
         return Err(io::Error::other("the two commands do not write the same"));
     }
     let mut times = [Vec::new(), Vec::new()];
     for round in 0..rounds {
         // Neither always goes first.
         for turn in [round % 2, 1 - round % 2] {
-            times[turn].push(time([ours, theirs][turn], input)?);
+            times[turn].push(time(runners[turn].words, input)?);
         }
     }
-    let [ours, theirs] = times.map(sorted);
-    println!("  pearlwinch             {}", shown(&ours));
-    println!("  second implementation  {}", shown(&theirs));
-    println!("  ratio of the medians   {:.2}", median(&ours) / median(&theirs));
+    let times = times.map(sorted);
+    for (runner, times) in runners.iter().zip(&times) {
+        println!("  {:<21}  {}", runner.name, shown(times));
+    }
+    println!("  ratio of the medians   {:.2}", median(&times[0]) / median(&times[1]));
     Ok(())
 }
 

@@ -8,7 +8,7 @@ use native.Mathlib.Omega.{arith}
 use denote.Ref.{now}
 use borrow.Author.Needs.{needs}
 use Rattle.octets.specs.Numbers.{octet}
-use Rattle.octets.specs.declared.fields.Header.{Header}
+use Rattle.fields.specs.declared.Header.{Header}
 use Rattle.tc.specs.Layout.{fieldsOf}
 use Rattle.tc.proofs.reader.fields.Statement.{statement}
 use Rattle.tc.proofs.reader.fields.Tie as tie

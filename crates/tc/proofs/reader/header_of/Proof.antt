@@ -2,7 +2,7 @@
 -- Assumes nothing.
 use mathlib.Core.Path.{ap, _∙_}
 use borrow.Author.Needs.{needs}
-use Rattle.octets.specs.Fields.{header}
+use Rattle.fields.specs.Fields.{header}
 use Rattle.tc.proofs.reader.header_of.Statement.{statement}
 use Rattle.tc.proofs.reader.header_of.Tie as tie
 

@@ -2,7 +2,7 @@
 -- Assumes nothing.
 use mathlib.Core.Path.{ap, _∙_}
 use borrow.Author.Needs.{needs}
-use Rattle.octets.specs.Fields.{packetId}
+use Rattle.fields.specs.Fields.{packetId}
 use Rattle.tc.proofs.reader.id_of.Statement.{statement}
 use Rattle.tc.proofs.reader.id_of.Tie as tie
 

@@ -2,7 +2,7 @@
 -- Assumes nothing.
 use mathlib.Core.Path.{ap, _∙_}
 use borrow.Author.Needs.{needs}
-use Rattle.octets.specs.Fields.{sequence}
+use Rattle.fields.specs.Fields.{sequence}
 use Rattle.tc.proofs.reader.sequence_of.Statement.{statement}
 use Rattle.tc.proofs.reader.sequence_of.Tie as tie
 

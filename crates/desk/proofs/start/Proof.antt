@@ -1,0 +1,17 @@
+-- `desk::start` meets its contract.
+-- Assumes nothing.
+use borrow.Author.Needs.{needs}
+use Rattle.desk.proofs.start.Statement.{statement}
+use Rattle.desk.proofs.start.Tie as tie
+
+none-requires : tie.Need-none-requires
+none-requires c κs = search needs
+
+goes-on-requires : tie.Need-goes-on-requires
+goes-on-requires c κs = search needs
+
+returns : tie.Need-returns
+returns c = λ i. record { draft = c .before .before .args .draft; state = record { counts = c .before .none .ensures i }; number = 0; halt = c .goes-on .ensures i }
+
+pub start-spec : {M : Type 1} → statement M
+start-spec = tie.close (tie.spec none-requires goes-on-requires returns)

@@ -1,3 +1,0 @@
-pub mod Doing
-pub mod Packing
-pub mod Units
