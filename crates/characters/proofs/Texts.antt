@@ -1,35 +1,15 @@
 -- Laws of the text of octets, and of the octets of a text.
 -- Assumes nothing.
 use mathlib.Core.Path.{_≡_, refl, sym, ap, _∙_}
-use mathlib.Core.Bool.{Bool, true, false, _&&_}
 use mathlib.Core.List.{List, [], _∷_}
 use Prim.Native.Nat.{ℕ, _+_, _*_, _/_, _%_, _≤_, _<_}
 use native.Mathlib.Omega.{arith}
 use lib.ListN.{length, getD, set, take, drop, length-set}
 use lib.Seq.{drop-length}
-use borrow.Author.Tests.{lt-ltb, le-ltb}
 use Rattle.laws.proofs.Lists.{drop-next}
 use Rattle.octets.specs.Copy.{laid}
 use Rattle.octets.proofs.Laid.{laid-past, laid-front}
-use Rattle.characters.specs.Digits.{valueOf, isDigit, digitOf, textOf, allDigits, octetsIn}
-
--- ---- whether all are digits
-
-digits-next : (s : List ℕ) (i : ℕ) → i < length s → allDigits (drop i s) ≡ isDigit (getD s i 0) && allDigits (drop (i + 1) s)
-unfolding allDigits
-digits-next s i h = ap allDigits (drop-next s i h)
-
-pub digits-pass : (s : List ℕ) (i : ℕ) → i < length s → valueOf (getD s i 0) < 16 → allDigits (drop (i + 1) s) ≡ allDigits (drop i s)
-digits-pass s i h small =
-    sym (digits-next s i h ∙ ap (λ (b : Bool). b && allDigits (drop (i + 1) s)) (lt-ltb (valueOf (getD s i 0)) 16 small))
-
-pub digits-fail : (s : List ℕ) (i : ℕ) → i < length s → 16 ≤ valueOf (getD s i 0) → false ≡ allDigits (drop i s)
-digits-fail s i h large =
-    sym (digits-next s i h ∙ ap (λ (b : Bool). b && allDigits (drop (i + 1) s)) (le-ltb (valueOf (getD s i 0)) 16 large))
-
-pub digits-end : (s : List ℕ) → allDigits (drop (length s) s) ≡ true
-unfolding allDigits
-digits-end s = ap allDigits (drop-length s)
+use Rattle.characters.specs.Digits.{valueOf, digitOf, textOf, octetsIn}
 
 -- ---- the text of octets
 

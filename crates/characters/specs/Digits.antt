@@ -1,7 +1,7 @@
 -- Document 01, "one packet a line in hexadecimal, both letter cases": digits, and the text of octets in upper case.
 use mathlib.Core.Bool.{Bool, true, cond, _&&_}
 use mathlib.Core.List.{List, [], _∷_}
-use Prim.Native.Nat.{ℕ, _+_, _*_, _-_, _/_, _%_}
+use Prim.Native.Nat.{ℕ, suc, _+_, _*_, _-_, _/_, _%_}
 use lib.Dec.{leb, ltb}
 
 -- Whether a character lies in a range, its two ends included.
@@ -41,6 +41,11 @@ textOf (x ∷ rest) = digitOf (x / 16) ∷ digitOf x ∷ textOf rest
 unfoldable pub allDigits : List ℕ → Bool
 allDigits [] = true
 allDigits (c ∷ rest) = isDigit c && allDigits rest
+
+-- The place of the first character of a text that is no digit, from 0; past the last one where all are digits.
+unfoldable pub badPlace : List ℕ → ℕ
+badPlace [] = 0
+badPlace (c ∷ rest) = cond (isDigit c) (suc (badPlace rest)) 0
 
 -- The octets of a text, two digits each; of what is no digit, the low four bits of its value.
 unfoldable pub octetsIn : List ℕ → List ℕ

@@ -3,7 +3,7 @@ ghost use mathlib.Core.Path.{_≡_};
 ghost use Prim.Native.Nat.{_+_, _/_, _<_};
 ghost use lib.ListN.{length, set};
 ghost use Rattle.octets.specs.Copy.{laid};
-ghost use Rattle.characters.specs.Digits.{digitOf, textOf, upperText, allDigits, octetsIn};
+ghost use Rattle.characters.specs.Digits.{digitOf, textOf, upperText, allDigits, badPlace, octetsIn};
 
 // Sets a character of a text; past the end it is dropped.
 pub fn put_character(text: &mut [u8], at: usize, c: u8)
@@ -54,19 +54,26 @@ pub fn put_upper(text: &mut [u8], at: usize, digits: &[u8])
     }
 }
 
-// Whether every character of a text is a digit.
-pub fn all_digits(text: &[u8]) -> bool
-    ensures { λ r. ⌜ r ≡ allDigits (now (text .entry)) ⌝ }
+// The place of the first character of a text that is no digit, from 0; past the last one where all are digits.
+pub fn bad_place(text: &[u8]) -> usize
+    ensures { λ r. ⌜ r ≡ badPlace (now (text .entry)) ⌝ }
 {
     let mut i = 0;
     while i < text.len() {
         let v = crate::value(text[i]);
         if 16 <= v {
-            return false;
+            return i;
         }
         i += 1;
     }
-    true
+    i
+}
+
+// Whether every character of a text is a digit.
+pub fn all_digits(text: &[u8]) -> bool
+    ensures { λ r. ⌜ r ≡ allDigits (now (text .entry)) ⌝ }
+{
+    bad_place(text) == text.len()
 }
 
 // Lays the octets of a text over a buffer's own from a place on; those that would stand past its end are dropped.

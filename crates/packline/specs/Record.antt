@@ -1,10 +1,9 @@
 -- docs/UNITS.md, "`pack UNIT [PACKETS]`": the record of a packet line, and why a line is refused by 70.
 use mathlib.Core.Bool.{cond}
 use mathlib.Core.List.{List, [], _∷_, _++_}
-use Prim.Native.Nat.{ℕ, suc, _+_}
-use lib.Dec.{eqb}
+use Prim.Native.Nat.{ℕ, _+_}
 use Rattle.octets.specs.Numbers.{octet}
-use Rattle.characters.specs.Digits.{isDigit, allDigits, upperText}
+use Rattle.characters.specs.Digits.{allDigits, badPlace, upperText}
 use Rattle.lines.specs.Lines.{newline}
 use Rattle.words.specs.Ascii.{ascii}
 use Rattle.numerals.specs.Numbers.{decimalOf}
@@ -32,11 +31,7 @@ haltLong = record { kind = 1; place = 0; octet = 0 }
 abbrev pub haltOdd : Halt
 haltOdd = record { kind = 3; place = 0; octet = 0 }
 
--- The place of the first character that is no digit, from 0.
-unfoldable pub badPlace : List ℕ → ℕ
-badPlace [] = 0
-badPlace (c ∷ rest) = cond (isDigit c) (suc (badPlace rest)) 0
-
+-- A character that is no digit: its place, from 1, and its octet.
 abbrev pub haltCharacter : List ℕ → Halt
 haltCharacter line = record { kind = 2; place = badPlace line + 1; octet = octet line (badPlace line) }
 

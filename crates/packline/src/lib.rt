@@ -4,14 +4,13 @@ use hexline::Written;
 use map::Profile;
 ghost use mathlib.Core.Path.{_≡_};
 ghost use mathlib.Core.List.{[], _∷_, _++_};
-ghost use Prim.Native.Nat.{_≤_};
-ghost use lib.ListN.{length, take};
+ghost use lib.ListN.{take};
 ghost use Rattle.tm.specs.Frame.{cut};
 ghost use Rattle.lines.specs.Lines.{newline};
 ghost use Rattle.saying.specs.Text.{SaysBy};
 ghost use Rattle.packetline.specs.Packet.{linesOf};
 ghost use Rattle.hexline.specs.Said.{SaidBy};
-ghost use Rattle.packline.specs.Record.{recordOf, recordAfter, badPlace, haltOf, refusedAt};
+ghost use Rattle.packline.specs.Record.{recordOf, recordAfter, haltOf, refusedAt};
 
 // Why a program stops at a line.
 pub const GOES_ON: u8 = 0;
@@ -61,27 +60,11 @@ pub fn record(
     }
 }
 
-// The place of the first character of a line that is no digit, from 0; past the last one where all are digits.
-fn bad_place(line: &[u8]) -> usize
-    ensures { λ r. ⌜ r ≡ badPlace (now (line .entry)) ⌝ }
-    ensures { λ r. ⌜ r ≤ length (now (line .entry)) ⌝ }
-{
-    let mut i = 0;
-    while i < line.len() {
-        let v = characters::value(line[i]);
-        if 16 <= v {
-            return i;
-        }
-        i += 1;
-    }
-    i
-}
-
 // Why a line that is no packet line is refused, where it is not too long.
 pub fn why(line: &[u8]) -> Halt
     ensures { λ r. ⌜ r ≡ haltOf (now (line .entry)) ⌝ }
 {
-    let at = bad_place(line);
+    let at = characters::text::bad_place(line);
     if line.len() <= at {
         return Halt {
             kind: ODD,

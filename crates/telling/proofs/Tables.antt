@@ -1,6 +1,6 @@
 -- Laws of a table in text: the walk to the end of its first row, its rows by number, and a table that is made of rows.
 -- Assumes nothing.
-use mathlib.Core.Path.{_≡_, refl, ap, subst, _∙_}
+use mathlib.Core.Path.{_≡_, refl, ap, _∙_}
 use mathlib.Core.Bool.{Bool, true, false, _&&_}
 use mathlib.Core.List.{List, [], _∷_, _++_}
 use Prim.Native.Nat.{ℕ, zero, suc, _+_, _-_, _≤_, _<_}
@@ -12,7 +12,6 @@ use borrow.Author.Tests.{eq-eqb, ne-eqb, eqb-true}
 use Rattle.laws.proofs.Lists.{drop-next}
 use Rattle.laws.proofs.Tests.{by-test, both}
 use Rattle.lines.specs.Lines.{newline}
-use Rattle.saying.specs.Text.{Says}
 use Rattle.telling.specs.Rows.{rowLength, rowOf}
 
 -- ---- the walk to the end of the first row
@@ -100,9 +99,3 @@ module _ (row : ℕ → List ℕ) where
   row-past zero k f plain h = row-none f
   row-past (suc n) k zero plain h = absurd (omega arith)
   row-past (suc n) k (suc f) plain h = made-next row n k plain f ∙ row-past n (suc k) f (both (eqb (rowLength (row k)) (length (row k))) (plainRows row n (suc k)) plain .1) (omega arith)
-
--- ---- added to a text
-
--- What is said is also any text that equals it.
-pub says-same : {s t d d′ : List ℕ} {at r : ℕ} → s ≡ t → Says s at d r d′ → Says t at d r d′
-says-same {d = d} {d′ = d′} {at = at} {r = r} e h = subst (λ (s : List ℕ). Says s at d r d′) e h

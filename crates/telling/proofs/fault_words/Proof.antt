@@ -1,6 +1,6 @@
 -- `telling::fault_words` meets its contract.
 -- Assumes nothing.
-use Rattle.telling.proofs.Tables.{says-same}
+use Rattle.saying.proofs.Saying.{says-as}
 use Rattle.telling.proofs.Faults.{fault-row}
 use borrow.Author.Needs.{needs}
 use Rattle.telling.proofs.fault_words.Statement.{statement}
@@ -18,7 +18,7 @@ same-length c = search needs
 returns : tie.Need-returns
 returns c =
     let p = c .before .before in
-    says-same (fault-row (p .before .before .before .before .args .f)) (p .put .ensures)
+    says-as (fault-row (p .before .before .before .before .args .f)) (p .put .ensures)
 
 pub fault-words-spec : {M : Type 1} → statement M
 fault-words-spec = tie.close (tie.spec slice-aggregate-put put-requires same-length returns)

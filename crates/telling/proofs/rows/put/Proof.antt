@@ -1,6 +1,6 @@
 -- `telling::rows::put` meets its contract.
 -- Assumes nothing.
-use Rattle.telling.proofs.Tables.{says-same}
+use Rattle.saying.proofs.Saying.{says-as}
 use borrow.Author.Needs.{needs}
 use Rattle.telling.proofs.rows.put.Statement.{statement}
 use Rattle.telling.proofs.rows.put.Tie as tie
@@ -17,7 +17,7 @@ same-length c = search needs
 returns : tie.Need-returns
 returns c =
     let t = c .before .before in
-    says-same (t .before .row .ensures) (t .text .ensures)
+    says-as (t .before .row .ensures) (t .text .ensures)
 
 pub put-spec : {M : Type 1} → statement M
 put-spec = tie.close (tie.spec row-requires text-requires same-length returns)

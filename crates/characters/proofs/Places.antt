@@ -1,19 +1,18 @@
--- The place of the first character that is no digit, and why a line is refused.
+-- The place of the first character that is no digit, and whether there is one.
 -- Assumes nothing.
 use mathlib.Core.Path.{_≡_, refl, sym, ap, _∙_}
-use mathlib.Core.Bool.{Bool, true, false, _&&_}
+use mathlib.Core.Bool.{true, false}
 use mathlib.Core.List.{List, [], _∷_}
 use Prim.Native.Nat.{ℕ, suc, _+_, _≤_, _<_}
 use native.Mathlib.Omega.{arith}
 use lib.ListN.{length, getD, drop}
 use lib.Seq.{drop-length}
-use lib.Dec.{ltb}
-use borrow.Author.Tests.{lt-ltb, le-ltb}
+use lib.Dec.{eqb}
+use borrow.Author.Tests.{lt-ltb, le-ltb, eq-eqb, ne-eqb}
 use Rattle.laws.proofs.Lists.{drop-next}
+use Rattle.laws.proofs.Order.{by-order}
 use Rattle.laws.proofs.Tests.{by-test}
-use Rattle.characters.specs.Digits.{valueOf, isDigit, allDigits}
-use Rattle.packline.specs.Record.{badPlace, haltOf, haltOdd, haltCharacter}
-use Rattle.packline.specs.declared.Halt.{Halt}
+use Rattle.characters.specs.Digits.{valueOf, isDigit, allDigits, badPlace}
 
 -- Behind a digit the place is one more, and at another character it is found.
 pub place-pass : (s : List ℕ) (i : ℕ) → i < length s → valueOf (getD s i 0) < 16 → i + 1 + badPlace (drop (i + 1) s) ≡ i + badPlace (drop i s)
@@ -51,10 +50,16 @@ some-other [] h = absurd (omega arith)
 some-other (c ∷ s) h =
     by-test (isDigit c) (λ t. rw t (some-other s (omega (arith, place-digit c s t)))) (λ e. rw e refl)
 
-pub halt-odd : (s : List ℕ) (at : ℕ) → at ≡ badPlace s → length s ≤ at → haltOdd ≡ haltOf s
-unfolding haltOf
-halt-odd s at e h = rw (all-digits s (omega (arith, e))) refl
+place-most : (s : List ℕ) → badPlace s ≤ length s
+unfolding badPlace
+place-most [] = omega arith
+place-most (c ∷ s) =
+    let more : badPlace s ≤ length s = place-most s in
+    by-test (isDigit c) (λ t. rw t (omega arith)) (λ e. rw e (omega arith))
 
-pub halt-character : (s : List ℕ) (at : ℕ) → at ≡ badPlace s → at < length s → _≡_ {A = Halt} (record { kind = 2; place = at + 1; octet = getD s at 0 }) (haltOf s)
-unfolding haltOf
-halt-character s at e h = rw (some-other s (omega (arith, e)), e) refl
+-- So it is past the last character just where all are digits.
+pub digits-place : (s : List ℕ) → eqb (badPlace s) (length s) ≡ allDigits s
+digits-place s =
+    by-order (length s) (badPlace s)
+    (λ h. eq-eqb (badPlace s) (length s) (omega (arith, place-most s)) ∙ sym (all-digits s h))
+    (λ h. ne-eqb (badPlace s) (length s) (λ e. omega arith) ∙ sym (some-other s h))
