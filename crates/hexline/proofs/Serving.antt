@@ -49,20 +49,21 @@ module _ (p : Profile) (m : Station) (packet : List ℕ) where
         due-bounded i,
       )
 
+  -- What is said of a packet that the terminal answered, and what goes on from it.
+  pub served-said : {answer : List ℕ} {at : ℕ} {text : List ℕ} {r : Outcome} {store out t : List ℕ} {end : ℕ} → Answered (packetInput p m packet) r store out
+      → Says answer at text end t → Said answer (packetAfter p m packet) at text (record { at = end; state = r .state }) store out t
+  unfolding packetAfter
+  served-said a s = record { says = s; state-is = ap (λ (o : Outcome). o .state) (a .outcome-is); store-is = a .store-is; out-is = a .out-is }
+
   -- The frames written one a line, and the closing line behind them.
   pub packet-said : {at : ℕ} {text : List ℕ} {r : Outcome} {store out t : List ℕ} {end : ℕ} → Answered (packetInput p m packet) r store out
       → Says (linesOf (cut (take (r .written) out)) ++ closingOf (r .verdict)) at text end t
       → Said (packetAnswer p m packet) (packetAfter p m packet) at text (record { at = end; state = r .state }) store out t
-  unfolding packetAnswer packetAfter
+  unfolding packetAnswer
   packet-said a f =
       let i : Input = packetInput p m packet in
       let v = ap (λ (o : Outcome). closingOf (o .verdict)) (a .outcome-is) ∙ ap closingOf (verdict-due i) in
-      record {
-        says = says-as (ap₂ (λ (l k : List ℕ). l ++ k) (due-lines i a) v) f;
-        state-is = ap (λ (o : Outcome). o .state) (a .outcome-is);
-        store-is = a .store-is;
-        out-is = a .out-is;
-      }
+      served-said a (says-as (ap₂ (λ (l k : List ℕ). l ++ k) (due-lines i a) v) f)
 
 -- A line's packet stands at the front of a buffer of 2,048 octets that its octets were written to.
 pub decoded : (line d packet : List ℕ) → length d ≡ packetMost → packet ≡ laid d 0 (octetsIn line) → take (length line / 2) packet ≡ packetIn line

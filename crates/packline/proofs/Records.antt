@@ -19,10 +19,10 @@ use Rattle.saying.proofs.Saying.{says-as, says-append}
 use Rattle.packetline.specs.Packet.{isPacket, linesOf}
 use Rattle.packetline.proofs.Packets.{packet-facts}
 use Rattle.packetline.proofs.Cutting.{cut-most}
-use Rattle.hexline.specs.Line.{Station, packetInput, packetIn, packetAfter}
+use Rattle.hexline.specs.Line.{Station, packetInput, packetIn}
 use Rattle.hexline.specs.Whole.{answerRoom}
 use Rattle.hexline.specs.Said.{Said}
-use Rattle.hexline.proofs.Serving.{due-lines, packet-in}
+use Rattle.hexline.proofs.Serving.{due-lines, served-said, packet-in}
 use Rattle.packline.specs.Record.{recordOf, recordAfter}
 
 module _ (p : Profile) (m : Station) (line : List ℕ) where
@@ -32,14 +32,10 @@ module _ (p : Profile) (m : Station) (line : List ℕ) where
       → Answered (packetInput p m (packetIn line)) r store out
       → Says (linesOf (cut (take (r .written) out)) ++ newline ∷ []) first t₁ end t₂
       → Said (recordOf p m line) (recordAfter p m line) at text (record { at = end; state = r .state }) store out t₂
-  unfolding recordOf packetAfter
+  unfolding recordOf
   record-said u n a f =
-      record {
-        says = says-as (ap (λ (l : List ℕ). upperText line ++ (newline ∷ (l ++ newline ∷ []))) (due-lines (packetInput p m (packetIn line)) a)) (says-append u (says-append n f));
-        state-is = ap (λ (o : Outcome). o .state) (a .outcome-is);
-        store-is = a .store-is;
-        out-is = a .out-is;
-      }
+      served-said p m (packetIn line) a
+      (says-as (ap (λ (l : List ℕ). upperText line ++ (newline ∷ (l ++ newline ∷ []))) (due-lines (packetInput p m (packetIn line)) a)) (says-append u (says-append n f)))
 
   -- Of a packet line: the text of its octets, and the frames due for them.
   pub record-packet : isPacket line ≡ true
