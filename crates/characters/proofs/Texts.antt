@@ -39,7 +39,7 @@ laid-text-full d at s i h full =
 
 -- ---- the octets of a text
 
-two-more : (s : List ℕ) (i : ℕ) → 2 * i + 1 < length s
+pub two-more : (s : List ℕ) (i : ℕ) → 2 * i + 1 < length s
     → drop (2 * i) s ≡ getD s (2 * i) 0 ∷ getD s (2 * i + 1) 0 ∷ drop (2 * (i + 1)) s
 two-more s i h =
     let behind : 2 * i + 1 + 1 ≡ 2 * (i + 1) = omega arith in
@@ -55,7 +55,7 @@ laid-octets-next d s at i high low h e f =
     rw (e, f) (sym (ap (λ (r : List ℕ). laid d at (octetsIn r)) (two-more s i h)))
 
 -- One character alone is no octet.
-one-left : (s : List ℕ) → length s ≤ 1 → octetsIn s ≡ []
+pub one-left : (s : List ℕ) → length s ≤ 1 → octetsIn s ≡ []
 unfolding octetsIn
 one-left [] h = refl
 one-left (c ∷ []) h = refl

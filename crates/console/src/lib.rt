@@ -59,6 +59,11 @@ pub fn tell(what: &[u8]) {
     mark();
 }
 
+// Marks that a record differs.
+pub fn differ() {
+    io::write_all(MARK_FILENO, b"1");
+}
+
 // Marks that something failed, or was refused.
 fn mark() {
     io::write_all(MARK_FILENO, b"2");

@@ -1,5 +1,5 @@
 -- What goes from line to line in a program over lines: its desk, the store and the output buffer.
-use mathlib.Core.Bool.{Bool, not}
+use mathlib.Core.Bool.{Bool, false, not}
 use mathlib.Core.List.{List}
 use Prim.Native.Nat.{ℕ, _+_, _%_, _^_}
 use lib.Dec.{eqb}
@@ -11,6 +11,7 @@ use Rattle.unit.specs.declared.Draft.{Draft}
 use Rattle.hexline.specs.Line.{Station}
 use Rattle.packline.specs.declared.Halt.{Halt}
 use Rattle.packline.specs.Record.{goesOn}
+use Rattle.desk.specs.declared.Group.{Group}
 use Rattle.desk.specs.declared.Desk.{Desk}
 
 -- A desk, the store and the output buffer.
@@ -23,9 +24,13 @@ pub record Place : Type 0 where
 abbrev pub placeOf : Desk → RefT (List ℕ) → RefT (List ℕ) → Place
 placeOf desk store out = record { desk = desk; store = now store; out = now out }
 
--- A desk before the first line: counts of 0, no line passed, nothing that stops the program.
+-- Before the first packet of a record.
+abbrev pub noGroup : Group
+noGroup = record { «open» = false; some = false; from = 0; end = 0; packet = 0; packets = 0; frames = 0 }
+
+-- A desk before the first line: counts of 0, no line passed, no group, nothing that stops the program.
 abbrev pub deskFor : Draft → Desk
-deskFor draft = record { draft = draft; state = record { counts = noCounts }; number = 0; halt = goesOn }
+deskFor draft = record { draft = draft; state = record { counts = noCounts }; number = 0; group = noGroup; halt = goesOn }
 
 -- The profile, and what the terminal works on.
 abbrev pub profileAt : Place → Profile
@@ -38,18 +43,21 @@ stationAt m = record { machine = record { state = m .desk .state; store = m .sto
 abbrev pub nextNumber : ℕ → ℕ
 nextNumber n = (n + 1) % 2 ^ 64
 
--- A desk with another unit, other counts, one line more, or a reason to stop.
+-- A desk with another unit, other counts, at another place of a record, one line further, or with a reason to stop.
 abbrev pub withDraft : Desk → Draft → Desk
-withDraft d draft = record { draft = draft; state = d .state; number = d .number; halt = d .halt }
+withDraft d draft = record { draft = draft; state = d .state; number = d .number; group = d .group; halt = d .halt }
 
 abbrev pub withState : Desk → State → Desk
-withState d state = record { draft = d .draft; state = state; number = d .number; halt = d .halt }
+withState d state = record { draft = d .draft; state = state; number = d .number; group = d .group; halt = d .halt }
+
+abbrev pub withGroup : Desk → Group → Desk
+withGroup d group = record { draft = d .draft; state = d .state; number = d .number; group = group; halt = d .halt }
 
 abbrev pub counted : Desk → Desk
-counted d = record { draft = d .draft; state = d .state; number = nextNumber (d .number); halt = d .halt }
+counted d = record { draft = d .draft; state = d .state; number = nextNumber (d .number); group = d .group; halt = d .halt }
 
 abbrev pub halting : Desk → Halt → Desk
-halting d halt = record { draft = d .draft; state = d .state; number = d .number; halt = halt }
+halting d halt = record { draft = d .draft; state = d .state; number = d .number; group = d .group; halt = halt }
 
 -- Whether the program has stopped.
 abbrev pub isHalted : Desk → Bool

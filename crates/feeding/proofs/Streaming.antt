@@ -15,11 +15,12 @@ use Rattle.lines.proofs.Whole.{LineFits, pieces-fit, stream-lines, stream-reach
 use Rattle.hexline.specs.Whole.{answerRoom}
 use Rattle.hexline.proofs.Serving.{line-answer-most}
 use Rattle.tasks.specs.declared.Task.{Task}
-use Rattle.tasks.specs.declared.Task.the-variants.{Line, Unit, Pack}
+use Rattle.tasks.specs.declared.Task.the-variants.{Line, Unit, Pack, Judge}
 use Rattle.desk.specs.declared.Desk.{Desk}
 use Rattle.desk.specs.Place.{Place, profileAt, stationAt}
 use Rattle.tasks.specs.Tasks.{taskSays, taskLongSays, taskProgram}
 use Rattle.packstep.proofs.Packing.{pack-most, long-most}
+use Rattle.judgestep.proofs.Lengths.{judge-most, judge-long-most}
 use Rattle.feeding.specs.Feed.{pieceProgram}
 use Rattle.feeding.specs.Output.{unitFirst, unitBehind}
 
@@ -28,12 +29,14 @@ answer-most : (t : Task) (m : Place) (line : List ℕ) → length (taskSays t m 
 answer-most Line m line = line-answer-most (profileAt m) (stationAt m) line
 answer-most Unit m line = omega arith
 answer-most Pack m line = pack-most m line
+answer-most Judge m line = judge-most m line
 
 answer-long-most : (t : Task) (d : Desk) → length (taskLongSays t d) ≤ answerRoom
 unfolding textOf
 answer-long-most Line d = omega arith
 answer-long-most Unit d = omega arith
 answer-long-most Pack d = long-most d
+answer-long-most Judge d = judge-long-most d
 
 module _ (t : Task) where
   task-fits : LineFits (taskProgram t)

@@ -13,7 +13,7 @@ use Rattle.laws.proofs.Tests.{by-test}
 use Rattle.laws.proofs.Order.{by-order}
 use Rattle.map.specs.declared.Profile.{Profile}
 use Rattle.terminal.specs.declared.Outcome.{Outcome}
-use Rattle.terminal.specs.Outcome.{Input, verdictOn, framesDue, octetsDue, Answered}
+use Rattle.terminal.specs.Outcome.{Input, verdictOn, framesDue, octetsDue, outAfter, Answered}
 use Rattle.hexline.specs.declared.Written.{Written}
 use Rattle.saying.specs.Text.{Says}
 use Rattle.saying.proofs.Saying.{says-as}
@@ -48,6 +48,11 @@ module _ (p : Profile) (m : Station) (packet : List ℕ) where
         cut-most (octetsDue i),
         due-bounded i,
       )
+
+  -- What goes on from a packet has the output buffer as the terminal leaves it.
+  pub after-out : packetAfter p m packet .out ≡ outAfter (packetInput p m packet)
+  unfolding packetAfter
+  after-out = refl
 
   -- What is said of a packet that the terminal answered, and what goes on from it.
   pub served-said : {answer : List ℕ} {at : ℕ} {text : List ℕ} {r : Outcome} {store out t : List ℕ} {end : ℕ} → Answered (packetInput p m packet) r store out

@@ -14,6 +14,9 @@ use Rattle.tm.specs.Frame.{cut}
 use Rattle.characters.specs.Digits.{upperText, textOf, octetsIn}
 use Rattle.characters.proofs.Capitals.{upper-length, upper-text}
 use Rattle.lines.specs.Lines.{newline}
+use Rattle.words.specs.Ascii.{ascii}
+use Rattle.numerals.specs.Numbers.{decimalOf}
+use Rattle.numerals.proofs.Decimals.{decimal-most}
 use Rattle.saying.specs.Text.{lineOf, Says}
 use Rattle.saying.proofs.Saying.{says-as, says-append}
 use Rattle.packetline.specs.Packet.{isPacket, linesOf}
@@ -23,7 +26,7 @@ use Rattle.hexline.specs.Line.{Station, packetInput, packetIn}
 use Rattle.hexline.specs.Whole.{answerRoom}
 use Rattle.hexline.specs.Said.{Said}
 use Rattle.hexline.proofs.Serving.{due-lines, served-said, packet-in}
-use Rattle.packline.specs.Record.{recordOf, recordAfter}
+use Rattle.packline.specs.Record.{recordOf, recordAfter, refusedAt}
 
 module _ (p : Profile) (m : Station) (line : List ℕ) where
   -- The line said in upper case, its packet's frames one a line, and the empty line behind them.
@@ -62,3 +65,7 @@ module _ (p : Profile) (m : Station) (line : List ℕ) where
         cut-most (octetsDue i),
         due-bounded i,
       )
+
+-- `refused 70` and a number take at most 32 characters.
+pub refused-most : (n : ℕ) → length (refusedAt n) ≤ 32
+refused-most n = omega (arith, length-append (ascii "refused 70 ") (decimalOf n ++ newline ∷ []), length-append (decimalOf n) (newline ∷ []), decimal-most n)

@@ -5,19 +5,15 @@ use mathlib.Core.Bool.{true, false}
 use mathlib.Core.List.{List, [], _∷_, _++_}
 use Prim.Native.Nat.{ℕ, _+_, _≤_, min}
 use native.Mathlib.Omega.{arith}
-use lib.ListN.{length, length-append}
+use lib.ListN.{length}
 use Rattle.laws.proofs.Tests.{by-test}
 use Rattle.saying.specs.Text.{Says}
 use Rattle.saying.proofs.Saying.{says-none}
-use Rattle.lines.specs.Lines.{newline}
-use Rattle.words.specs.Ascii.{ascii}
-use Rattle.numerals.specs.Numbers.{decimalOf}
-use Rattle.numerals.proofs.Decimals.{decimal-most}
 use Rattle.packetline.specs.Packet.{isPacket}
 use Rattle.hexline.specs.Whole.{answerRoom}
 use Rattle.packline.specs.declared.Halt.{Halt}
 use Rattle.packline.specs.Record.{haltOf, haltLong, refusedAt}
-use Rattle.packline.proofs.Records.{record-most}
+use Rattle.packline.proofs.Records.{record-most, refused-most}
 use Rattle.desk.specs.declared.Desk.{Desk}
 use Rattle.desk.specs.declared.Done.{Done}
 use Rattle.desk.specs.Place.{Place, profileAt, stationAt, nextNumber, counted, halting, isHalted, atDesk}
@@ -84,17 +80,16 @@ long-refused d e {at = at} {text = text} {text′ = text′} r h f s g =
     rw h (subst (λ (x : Desk). Says (refusedAt (x .number)) at text (r .at) text′) f s, g ∙ ap (λ (x : Desk). halting x haltLong) f)
 
 -- No answer has more than 16,384 characters.
-refused-most : (n : ℕ) → length (refusedAt n) ≤ answerRoom
-refused-most n =
-    omega (arith, length-append (ascii "refused 70 ") (decimalOf n ++ newline ∷ []), length-append (decimalOf n) (newline ∷ []), decimal-most n)
+under : (n : ℕ) → length (refusedAt n) ≤ answerRoom
+under n = omega (arith, refused-most n)
 
 pub pack-most : (m : Place) (line : List ℕ) → length (packSays m line) ≤ answerRoom
 unfolding packSays
 pack-most m line =
     by-test (isHalted (m .desk)) (λ t. rw t (omega arith))
     (λ h. by-test (isEmpty line) (λ t. rw (h, t) (omega arith))
-    (λ n. by-test (isPacket line) (λ p. rw (h, n, p) (record-most (profileAt m) (stationAt m) line p)) (λ p. rw (h, n, p) (refused-most (nextNumber (m .desk .number))))))
+    (λ n. by-test (isPacket line) (λ p. rw (h, n, p) (record-most (profileAt m) (stationAt m) line p)) (λ p. rw (h, n, p) (under (nextNumber (m .desk .number))))))
 
 pub long-most : (d : Desk) → length (packLongSays d) ≤ answerRoom
 unfolding packLongSays
-long-most d = by-test (isHalted d) (λ t. rw t (omega arith)) (λ h. rw h (refused-most (nextNumber (d .number))))
+long-most d = by-test (isHalted d) (λ t. rw t (omega arith)) (λ h. rw h (under (nextNumber (d .number))))

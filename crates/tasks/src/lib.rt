@@ -1,4 +1,4 @@
-// What the programs over lines do with a line: the line program, the reader of unit files, and `pack`.
+// What the programs over lines do with a line: the line program, the reader of unit files, `pack` and `judge`.
 use desk::Desk;
 use desk::Done;
 ghost use mathlib.Core.Path.{_≡_};
@@ -11,6 +11,7 @@ pub enum Task {
     Line,
     Unit,
     Pack,
+    Judge,
 }
 
 // The line program's answer to a line.
@@ -49,6 +50,7 @@ pub fn answer(
         Task::Line => line_answer(d, line, store, out, text, at),
         Task::Unit => desk::nothing(unitstep::unit_desk(d, line, store), text, at),
         Task::Pack => packstep::pack_answer(d, line, store, out, text, at),
+        Task::Judge => judgestep::judge_answer(d, line, store, out, text, at),
     }
 }
 
@@ -64,5 +66,6 @@ pub fn answer_long(task: Task, d: Desk, text: &mut [u8], at: usize) -> Done
         },
         Task::Unit => desk::nothing(unitstep::unit_long(d), text, at),
         Task::Pack => packstep::pack_long(d, text, at),
+        Task::Judge => judgestep::judge_long(d, text, at),
     }
 }

@@ -1,2 +1,3 @@
 pub mod Tables
 pub mod Faults
+pub mod Lengths

@@ -2,11 +2,12 @@
 -- Assumes nothing.
 use mathlib.Core.Path.{_≡_, refl, sym, ap, subst, _∙_}
 use mathlib.Core.Bool.{true}
-use mathlib.Core.List.{List, _++_}
+use mathlib.Core.List.{List, _++_, map}
 use Prim.Native.Nat.{ℕ, _≤_}
 use native.Mathlib.Nat.{zero-add}
 use native.Mathlib.Omega.{arith}
 use lib.ListN.{length, take, drop}
+use Rattle.laws.specs.Each.{Each}
 use Rattle.laws.specs.Fold.{joined}
 use Rattle.laws.proofs.Tests.{by-test}
 use Rattle.octets.proofs.Laid.{laid-eq, laid-length, laid-front}
@@ -16,8 +17,9 @@ use Rattle.tc.specs.Layout.{applicationOf, fieldsOf}
 use Rattle.blocks.specs.Blocks.{firstPlace, memoryId, blockCount, blocksOf}
 use Rattle.blocks.proofs.Blocks.{blocks-length}
 use Rattle.blocks.proofs.WellFormed.{head-facts, right-bounds}
-use Rattle.tm.specs.Frame.{Report, timeOf, framesOf, cut}
-use Rattle.tm.proofs.Frames.{octetsIn, frames-size, size-append, cut-frames}
+use Rattle.tm.specs.Frame.{Report, frameHead, timeOf, timed, framesOf, cut}
+use Rattle.tm.proofs.Frame.{time-six}
+use Rattle.tm.proofs.Frames.{octetsIn, frames-size, size-append, cut-frames, frames-long, frames-timed}
 use Rattle.requests.specs.declared.Action.the-variants.{Load, Dump, Check}
 use Rattle.decide.specs.declared.Task.{Task}
 use Rattle.decide.specs.declared.Task.the-variants.{Idle, Memory, Connection}
@@ -120,3 +122,16 @@ module _ (i : Input) where
   pub written-due : outcomeOf i .written ≡ length (octetsDue i)
   unfolding outcomeOf
   written-due = refl
+
+  -- Each frame has its head.
+  pub due-long : Each (λ (frame : List ℕ). frameHead ≤ length frame) (framesDue i)
+  unfolding framesDue
+  due-long = frames-long (i .profile .pid) (timeOf (i .time)) refl (i .state .counts) (reportsOn i)
+
+-- The frames due at another time are the frames due, each with that time.
+pub due-timed : (i : Input) (time : List ℕ) → length time ≡ 6
+    → framesDue (record { profile = i .profile; state = i .state; time = time; packet = i .packet; store = i .store; out = i .out }) ≡ map (timed time) (framesDue i)
+unfolding framesDue
+due-timed i time six =
+    ap (λ (t : List ℕ). framesOf (i .profile .pid) t (i .state .counts) (reportsOn i)) (time-six time six)
+    ∙ sym (frames-timed (i .profile .pid) (timeOf (i .time)) refl time (i .state .counts) (reportsOn i))

@@ -1,17 +1,17 @@
 -- Laws of one frame: how long it is, what its length field says, and that it may be laid in steps.
 -- Assumes nothing.
 use mathlib.Core.Path.{_≡_, refl, sym, ap, ap₂, _∙_}
-use mathlib.Core.List.{List, _++_}
+use mathlib.Core.List.{List, [], _∷_, _++_, append-assoc}
 use Prim.Native.Nat.{ℕ, _+_, _*_, _-_, _/_, _%_, _<_}
 use native.Mathlib.Omega.{arith}
-use lib.ListN.{length, getD, drop, length-append}
+use lib.ListN.{length, getD, take, drop, length-append}
 use lib.Seq.{getD-drop}
 use Rattle.octets.specs.Copy.{laid}
 use Rattle.octets.specs.Numbers.{word16}
 use Rattle.octets.proofs.Laid.{laid-append}
 use Rattle.octets.proofs.Words.{run, run-all}
 use Rattle.tm.specs.declared.Stamp.{Stamp}
-use Rattle.tm.specs.Frame.{frameHead, uncounted, timeOf, headOf, frameOf, frameSize}
+use Rattle.tm.specs.Frame.{frameHead, uncounted, timeOf, headOf, frameOf, timed, frameSize}
 
 -- Six octets are a time as they stand.
 pub time-six : (time : List ℕ) → length time ≡ 6 → timeOf time ≡ time
@@ -56,3 +56,14 @@ laid-frame-split d at s x y h =
     ap (λ (n : ℕ). laid (laid (laid d at (headOf s n)) (at + frameHead) x) (at + frameHead + length x) y) (omega (arith, length-append x y))
     ∙ laid-append (laid d at (headOf s (length (x ++ y)))) (at + frameHead) x y
     ∙ laid-frame d at s (x ++ y) h
+
+-- A frame with another time is the frame of a stamp with that time.
+pub frame-timed : (pid count kind subtype : ℕ) (old time source : List ℕ) → length old ≡ 6
+    → timed time (frameOf (record { pid = pid; count = count; time = old; kind = kind; subtype = subtype }) source)
+    ≡ frameOf (record { pid = pid; count = count; time = time; kind = kind; subtype = subtype }) source
+unfolding frameOf headOf
+frame-timed pid count kind subtype old time source six =
+    let stamp : List ℕ → Stamp = λ t. record { pid = pid; count = count; time = t; kind = kind; subtype = subtype } in
+    let front : List ℕ = take 6 (headOf (stamp old) (length source)) in
+    ap (λ (t : List ℕ). timed time (frameOf (stamp t) source)) (sym (time-six old six))
+    ∙ ap (λ (back : List ℕ). front ++ back) (sym (append-assoc time (0 ∷ kind ∷ subtype ∷ 0 ∷ []) source))

@@ -2,7 +2,7 @@
 -- Assumes nothing.
 use mathlib.Core.Path.{_≡_, refl, sym, ap, ap₂, _∙_}
 use mathlib.Core.Bool.{true}
-use mathlib.Core.List.{List, [], _∷_, _++_, append-nil}
+use mathlib.Core.List.{List, [], _∷_, _++_, append-nil, map}
 use Prim.Native.Nat.{ℕ, zero, suc, _+_, _-_, min, _≤_, _<_}
 use native.Mathlib.Nat.{zero-add}
 use native.Mathlib.Omega.{arith}
@@ -15,8 +15,8 @@ use Rattle.laws.proofs.Order.{by-order}
 use Rattle.counts.specs.declared.Counts.{Counts}
 use Rattle.counts.specs.Counts.{countFor, counted, inRange}
 use Rattle.counts.proofs.Counting.{counted-in-range}
-use Rattle.tm.specs.Frame.{Report, frameHead, stamped, framesOf, countsAfter, frameSize, cutFrames, cut}
-use Rattle.tm.proofs.Frame.{frame-length, frame-size}
+use Rattle.tm.specs.Frame.{Report, frameHead, stamped, framesOf, countsAfter, timed, frameSize, cutFrames, cut}
+use Rattle.tm.proofs.Frame.{frame-length, frame-size, frame-timed}
 
 -- ---- reports in two runs
 
@@ -161,3 +161,19 @@ pub after-in-range : (c : Counts) (rs : List Report) → inRange c ≡ true → 
 unfolding countsAfter
 after-in-range c [] h = h
 after-in-range c (r ∷ rest) h = after-in-range (counted c (r .kind)) rest (counted-in-range c (r .kind) h)
+
+-- ---- the time
+
+module _ (pid : ℕ) (old : List ℕ) (six : length old ≡ 6) where
+  -- Each frame has its head.
+  pub frames-long : (c : Counts) (rs : List Report) → Each (λ (frame : List ℕ). frameHead ≤ length frame) (framesOf pid old c rs)
+  unfolding framesOf
+  frames-long c [] = tt
+  frames-long c (r ∷ rs) = (omega (arith, stamped-length pid old c r six), frames-long (counted c (r .kind)) rs)
+
+  -- Frames with another time are those of the same reports with that time.
+  pub frames-timed : (time : List ℕ) (c : Counts) (rs : List Report) → map (timed time) (framesOf pid old c rs) ≡ framesOf pid time c rs
+  unfolding framesOf stamped
+  frames-timed time c [] = refl
+  frames-timed time c (r ∷ rs) =
+      ap₂ (λ (f : List ℕ) (fs : List (List ℕ)). f ∷ fs) (frame-timed pid (countFor c (r .kind)) (r .kind) (r .subtype) old time (r .source) six) (frames-timed time (counted c (r .kind)) rs)

@@ -34,6 +34,16 @@ headOf s octets =
 unfoldable pub frameOf : Stamp → List ℕ → List ℕ
 frameOf s source = headOf s (length source) ++ source
 
+-- The octets of a frame that are its time, 6 to 11; and a frame with another time.
+abbrev pub timeFirst : ℕ
+timeFirst = 6
+
+abbrev pub timeEnd : ℕ
+timeEnd = 12
+
+abbrev pub timed : List ℕ → List ℕ → List ℕ
+timed time frame = take timeFirst frame ++ (time ++ drop timeEnd frame)
+
 -- A report before it is stamped: its type, subtype and source data.
 pub record Report : Type 0 where
   pub kind : ℕ

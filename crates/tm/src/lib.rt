@@ -9,6 +9,11 @@ ghost use Rattle.tm.specs.Frame.{headOf, frameOf, frameSize, LaysFrame};
 // The octets before a frame's source data.
 pub const HEAD: usize = 16;
 
+// The octets of a frame that are its time: from the first up to the second.
+pub const TIME_FIRST: usize = 6;
+
+pub const TIME_END: usize = 12;
+
 // What the length field leaves out of a frame's octets.
 const UNCOUNTED: usize = 7;
 

@@ -27,6 +27,12 @@ enum-told-3 c = search needs
 pack-answer-requires : tie.Need-pack-answer-requires
 pack-answer-requires c κs = search needs
 
+enum-told-4 : tie.Need-enum-told-4
+enum-told-4 c = search needs
+
+judge-answer-requires : tie.Need-judge-answer-requires
+judge-answer-requires c κs = search needs
+
 same-length : tie.Need-same-length
 same-length c = search needs
 
@@ -67,6 +73,20 @@ returns-3 c =
     let k = c .before .before .before .before .before .before in
     rw (k .before .before .before .before .enum-told3 .given .1) (k .pack-answer .ensures)
 
+same-length-9 : tie.Need-same-length-9
+same-length-9 c = search needs
+
+same-length-10 : tie.Need-same-length-10
+same-length-10 c = search needs
+
+same-length-11 : tie.Need-same-length-11
+same-length-11 c = search needs
+
+returns-4 : tie.Need-returns-4
+returns-4 c =
+    let k = c .before .before .before .before .before .before in
+    rw (k .before .before .before .before .enum-told4 .given .1) (k .judge-answer .ensures)
+
 pub answer-spec : {M : Type 1} → statement M
 answer-spec =
     tie.close
@@ -78,6 +98,8 @@ answer-spec =
     nothing-requires
     enum-told-3
     pack-answer-requires
+    enum-told-4
+    judge-answer-requires
     same-length
     same-length-2
     same-length-3
@@ -88,4 +110,8 @@ answer-spec =
     same-length-6
     same-length-7
     same-length-8
-    returns-3)
+    returns-3
+    same-length-9
+    same-length-10
+    same-length-11
+    returns-4)

@@ -27,6 +27,12 @@ enum-told-3 c = search needs
 pack-long-requires : tie.Need-pack-long-requires
 pack-long-requires c κs = search needs
 
+enum-told-4 : tie.Need-enum-told-4
+enum-told-4 c = search needs
+
+judge-long-requires : tie.Need-judge-long-requires
+judge-long-requires c κs = search needs
+
 same-length : tie.Need-same-length
 same-length c = search needs
 
@@ -51,6 +57,14 @@ returns-3 c =
     let k = c .before .before in
     rw (k .before .before .enum-told3 .given .1) (k .pack-long .ensures)
 
+same-length-4 : tie.Need-same-length-4
+same-length-4 c = search needs
+
+returns-4 : tie.Need-returns-4
+returns-4 c =
+    let k = c .before .before in
+    rw (k .before .before .enum-told4 .given .1) (k .judge-long .ensures)
+
 pub answer-long-spec : {M : Type 1} → statement M
 answer-long-spec =
     tie.close
@@ -62,9 +76,13 @@ answer-long-spec =
     nothing-requires
     enum-told-3
     pack-long-requires
+    enum-told-4
+    judge-long-requires
     same-length
     returns
     same-length-2
     returns-2
     same-length-3
-    returns-3)
+    returns-3
+    same-length-4
+    returns-4)

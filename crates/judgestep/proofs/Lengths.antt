@@ -1,0 +1,60 @@
+-- No answer of the judge has more than 16,384 characters.
+-- Assumes nothing.
+use mathlib.Core.Path.{_≡_}
+use mathlib.Core.Bool.{true, false}
+use mathlib.Core.List.{List, [], _∷_, _++_}
+use Prim.Native.Nat.{ℕ, _+_, _≤_}
+use native.Mathlib.Omega.{arith}
+use lib.ListN.{length, take, length-append, length-take}
+use Rattle.laws.proofs.Tests.{by-test}
+use Rattle.characters.specs.Digits.{octetsIn}
+use Rattle.tm.specs.Frame.{frameSize}
+use Rattle.packetline.specs.Packet.{isPacket}
+use Rattle.packetline.proofs.Packets.{packet-facts}
+use Rattle.hexline.specs.Whole.{answerRoom}
+use Rattle.packline.specs.declared.Halt.{Halt}
+use Rattle.packline.specs.Record.{haltOf, haltLong, refusedAt}
+use Rattle.packline.proofs.Records.{refused-most}
+use Rattle.telling.specs.Telling.{haltLine}
+use Rattle.telling.proofs.Lengths.{halt-line-most}
+use Rattle.beside.specs.Beside.{agrees}
+use Rattle.differing.proofs.Telling.{differs-most}
+use Rattle.desk.specs.declared.Group.{Group}
+use Rattle.desk.specs.declared.Desk.{Desk}
+use Rattle.desk.specs.Place.{Place, nextNumber, counted, isHalted, counting}
+use Rattle.judgestep.specs.Step.{leftAt, frameRoom, dueAt, badSays, outsideSays, insideSays, judgeSays, judgeLongSays}
+use Rattle.judgestep.proofs.Judging.{stopped, cond-inside, cond-outside}
+
+bad-most : (n : ℕ) (h : Halt) → length (badSays n h) ≤ answerRoom
+bad-most n h = omega (arith, length-append (refusedAt n) (haltLine h), refused-most n, halt-line-most h)
+
+due-room : (g : Group) (out : List ℕ) → length (dueAt g out) ≤ frameRoom
+due-room g out = omega (arith, length-take frameRoom (take (frameSize (leftAt g out)) (leftAt g out)))
+
+outside-most : (m : Place) (line : List ℕ) → length (outsideSays m line) ≤ answerRoom
+unfolding outsideSays
+outside-most m [] = omega arith
+outside-most m (c ∷ line) =
+    by-test (isPacket (c ∷ line)) (λ t. rw t (omega arith)) (λ e. rw e (bad-most (m .desk .number) (haltOf (c ∷ line))))
+
+inside-most : (d : Desk) (out line : List ℕ) → length (insideSays d out line) ≤ answerRoom
+unfolding insideSays
+inside-most d out line =
+    by-test (isPacket line)
+    (λ t. by-test (agrees (dueAt (d .group) out) (octetsIn line)) (λ a. rw (t, a) (omega arith))
+    (λ a. rw (t, a) (omega (arith, differs-most (d .number) (d .group .packet) (dueAt (d .group) out) line, due-room (d .group) out, packet-facts line t .2))))
+    (λ e. rw e (bad-most (d .number) (haltOf line)))
+
+bounded : {said other : List ℕ} → said ≡ other → length other ≤ answerRoom → length said ≤ answerRoom
+bounded e h = rw e h
+
+pub judge-most : (m : Place) (line : List ℕ) → length (judgeSays m line) ≤ answerRoom
+judge-most m line =
+    by-test (isHalted (m .desk)) (λ t. bounded (stopped m line t .0) (omega arith))
+    (λ h. by-test (m .desk .group .«open»)
+    (λ o. bounded (cond-inside m line h o .0) (inside-most (counted (m .desk)) (m .out) line))
+    (λ o. bounded (cond-outside m line h o .0) (outside-most (counting m) line)))
+
+pub judge-long-most : (d : Desk) → length (judgeLongSays d) ≤ answerRoom
+unfolding judgeLongSays
+judge-long-most d = by-test (isHalted d) (λ t. rw t (omega arith)) (λ h. rw h (bad-most (nextNumber (d .number)) haltLong))
