@@ -1,3 +1,4 @@
 pub mod Blocks
 pub mod Walk
 pub mod WellFormed
+pub mod Octets

@@ -1,6 +1,6 @@
 -- What may change in a record that conforms: the times, and nothing else of its TM lines.
 -- Assumes nothing.
-use mathlib.Core.Path.{_≡_, sym, subst, _∙_}
+use mathlib.Core.Path.{_≡_, refl, sym, subst, _∙_}
 use mathlib.Core.Bool.{true}
 use mathlib.Core.List.{List, [], _∷_}
 use Prim.Native.Nat.{ℕ, _≤_}
@@ -16,7 +16,7 @@ use Rattle.terminal.specs.Outcome.{framesDue}
 use Rattle.hexline.specs.Line.{Station, packetInput, packetAfter}
 use Rattle.beside.proofs.Agreeing.{agrees-length, agrees-octet, octets-agree}
 use Rattle.conforming.specs.Groups.{Line, Group, groupsOf}
-use Rattle.conforming.specs.Conforms.{framesFor, afterTC, Gives, GiveAll, GroupsConform, Conforms}
+use Rattle.conforming.specs.Conforms.{framesFor, afterTC, Gives, GiveAll, GroupsConform, Conforms, packetsIn}
 use Rattle.conforming.specs.Alike.{Alike, AllAlike, packetsOf, reportsOf, GroupsAlike}
 use Rattle.conforming.proofs.Giving.{gives-agrees, agrees-gives}
 use Rattle.conforming.proofs.Passing.{Long, groups-each, frames-long}
@@ -40,7 +40,8 @@ alike-gives f a b long g h packet =
     agrees-gives f b long packet
     (octets-agree f (octetsIn b) (agrees-length f (octetsIn a) e ∙ h .as-many) (λ k _ t. sym (agrees-octet f (octetsIn a) e k t) ∙ h .same k t))
 
-give-all-alike : (frames : List (List ℕ)) (xs ys : List Line) → Long frames → GiveAll frames xs → GiveAll frames ys → AllAlike xs ys
+-- Lines that give the same frames are alike, in order and number.
+pub give-all-alike : (frames : List (List ℕ)) (xs ys : List Line) → Long frames → GiveAll frames xs → GiveAll frames ys → AllAlike xs ys
 unfolding GiveAll AllAlike
 give-all-alike [] [] [] long g h = tt
 give-all-alike [] [] (b ∷ ys) long g h = absurd h
@@ -100,6 +101,13 @@ module _ (p : Profile) where
       )
 
 -- ---- records
+
+-- Groups have as many packets as they have TCs.
+pub packets-counted : (groups : List Group) → length (packetsOf groups) ≡ packetsIn groups
+unfolding packetsOf packetsIn
+packets-counted [] = refl
+packets-counted ([] ∷ rest) = packets-counted rest
+packets-counted ((tc ∷ tms) ∷ rest) = omega (arith, packets-counted rest)
 
 -- Two records that conform and have the same TCs have the same frames, in order and number, but for their times.
 pub one-record : (p : Profile) (m : Station) (r s : List Line) → Conforms p m r → Conforms p m s → packetsOf (groupsOf r) ≡ packetsOf (groupsOf s)

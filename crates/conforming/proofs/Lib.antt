@@ -5,4 +5,5 @@ pub mod Verdicts
 pub mod Changes
 pub mod Standing
 pub mod OneLine
+pub mod GoingOn
 pub mod LineByLine

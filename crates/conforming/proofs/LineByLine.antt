@@ -11,20 +11,12 @@ use Rattle.packetline.specs.Packet.{isPacket}
 use Rattle.map.specs.declared.Profile.{Profile}
 use Rattle.hexline.specs.Line.{Station}
 use Rattle.beside.specs.Beside.{agrees}
-use Rattle.conforming.specs.Groups.{Line, Group, ahead, groupsOf}
+use Rattle.conforming.specs.Groups.{Line, Group, groupsOf, firstGroup, otherGroups}
 use Rattle.conforming.specs.Conforms.{framesFor, afterTC}
 use Rattle.conforming.specs.Findings.{Finding, blank, packet, frame, bad, differs, firstOf, restOf, findingOf, findingTC, besideAll, findingsFrom}
 use Rattle.conforming.specs.Verdict.{Verdict, Differs, Refused70, concluded, ruledFrom, verdictOf}
 use Rattle.conforming.proofs.Giving.{empty-packet}
-
--- The first of some groups, and those behind it.
-firstGroup : List Group → Group
-firstGroup [] = []
-firstGroup (g ∷ gs) = g
-
-otherGroups : List Group → List Group
-otherGroups [] = []
-otherGroups (g ∷ gs) = gs
+use Rattle.conforming.proofs.Standing.{groups-line}
 
 -- The verdict behind so many lines, packets and frames, outside of a group, and inside of the group of the TC at a line.
 pub verdictOutside : Profile → Station → ℕ → ℕ → ℕ → List Line → Verdict
@@ -34,16 +26,6 @@ pub verdictInside : Profile → Station → ℕ → ℕ → ℕ → ℕ → List
 verdictInside p s k packets frames tc due lines =
     let groups : List Group = groupsOf lines in
     ruledFrom (k + 1) packets frames (besideAll tc due (firstGroup groups) ++ findingsFrom p s (k + length (firstGroup groups) + 2) (otherGroups groups))
-
--- There is always a group, and a line that is not empty begins the first.
-ahead-some : (c : ℕ) (l : Line) (groups : List Group) → ahead (c ∷ l) groups ≡ ((c ∷ l) ∷ firstGroup groups) ∷ otherGroups groups
-unfolding firstGroup otherGroups
-ahead-some c l [] = refl
-ahead-some c l (g ∷ gs) = refl
-
-groups-line : (c : ℕ) (l : Line) (ls : List Line) → groupsOf ((c ∷ l) ∷ ls) ≡ ((c ∷ l) ∷ firstGroup (groupsOf ls)) ∷ otherGroups (groupsOf ls)
-unfolding groupsOf
-groups-line c l ls = ahead-some c l (groupsOf ls)
 
 groups-blank : (ls : List Line) → groupsOf ([] ∷ ls) ≡ [] ∷ groupsOf ls
 unfolding groupsOf

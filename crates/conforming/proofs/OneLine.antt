@@ -14,17 +14,17 @@ use Rattle.packetline.specs.Packet.{isPacket}
 use Rattle.map.specs.declared.Profile.{Profile}
 use Rattle.hexline.specs.Line.{Station}
 use Rattle.beside.specs.Beside.{agrees}
-use Rattle.conforming.specs.Groups.{Line, Group, groupsOf}
+use Rattle.conforming.specs.Groups.{Line, Group, Filled, groupsOf, firstGroup, otherGroups}
 use Rattle.conforming.specs.Conforms.{framesFor, afterTC, Gives, GiveAll, GroupsConform, Conforms}
 use Rattle.conforming.specs.Findings.{Finding, blank, differs, restOf, findingOf, findingTC, besideAll, findingsFrom, findingsOf}
 use Rattle.conforming.specs.Verdict.{Differs, verdictOf}
 use Rattle.conforming.specs.Permitted.{passes, FirstAt, differing}
 use Rattle.conforming.specs.Alike.{Alike}
 use Rattle.conforming.proofs.Giving.{agrees-gives}
-use Rattle.conforming.proofs.Passing.{Filled, Long, every-append, every-parts, found-frame, give-passes, frames-long, conforms-passes}
+use Rattle.conforming.proofs.Passing.{Long, every-append, every-parts, found-frame, give-passes, frames-long, conforms-passes}
 use Rattle.conforming.proofs.Verdicts.{permitted-verdict}
 use Rattle.conforming.proofs.Changes.{gives-alike}
-use Rattle.conforming.proofs.Standing.{linesIn, Within, within}
+use Rattle.conforming.proofs.Standing.{linesIn, Within, within, within-line}
 
 -- ---- the line that differs
 
@@ -141,11 +141,13 @@ module _ (p : Profile) (m : Station) (front xs ys : List Line) (c : ℕ) (t old 
     (was : Filled old) (is : Filled new) (digits : isPacket new ≡ true) (other : Alike old new → ⊥) (fits : Conforms p m (xs ++ (old ∷ ys))) where
   parts-there : Parting (findingsOf p m (xs ++ (new ∷ ys))) (length xs) old new
   parts-there =
-      let w : Within xs ys = subst (λ (s : List Line). Within s ys) (sym stands) (within front c t ys) in
-      let d = groups-part old new digits other p m 1 (w .earlier) (w .tc) (w .tms) (w .more) (w .later)
-      (subst (λ (gs : List Group). GroupsConform p m gs) (w .groups-are old was) fits) in
+      let w : Within xs = subst (λ (s : List Line). Within s) (sym stands) (within front c t) in
+      let more : List Line = firstGroup (groupsOf ys) in
+      let later : List Group = otherGroups (groupsOf ys) in
+      let d = groups-part old new digits other p m 1 (w .earlier) (w .tc) (w .tms) more later
+      (subst (λ (gs : List Group). GroupsConform p m gs) (within-line w old ys was) fits) in
       subst (λ (n : ℕ). Parting (findingsOf p m (xs ++ (new ∷ ys))) n old new) (sym (w .as-many))
-      (subst (λ (gs : List Group). Parting (findingsFrom p m 1 gs) (linesIn (w .earlier) + length (w .tms) + 1) old new) (sym (w .groups-are new is)) d)
+      (subst (λ (gs : List Group). Parting (findingsFrom p m 1 gs) (linesIn (w .earlier) + length (w .tms) + 1) old new) (sym (within-line w new ys is)) d)
 
   -- A TM line of a record that conforms, changed in more than its time to another packet line, is the first that does not agree.
   pub changed-first : DiffersAt p m (xs ++ (new ∷ ys)) (length xs + 1) old new

@@ -14,18 +14,13 @@ use Rattle.map.specs.declared.Profile.{Profile}
 use Rattle.terminal.proofs.Due.{due-long}
 use Rattle.hexline.specs.Line.{Station, packetInput}
 use Rattle.beside.specs.Beside.{agrees}
-use Rattle.conforming.specs.Groups.{Line, Group, ahead, groupsOf}
+use Rattle.conforming.specs.Groups.{Line, Group, Filled, ahead, groupsOf}
 use Rattle.conforming.specs.Conforms.{framesFor, afterTC, Gives, GiveAll, GroupsConform}
 use Rattle.conforming.specs.Findings.{Finding, blank, frame, firstOf, findingOf, findingTC, besideAll, findingsFrom}
 use Rattle.conforming.specs.Permitted.{passes}
 use Rattle.conforming.proofs.Giving.{gives-agrees, agrees-gives, empty-packet, none-agree, empty-parts, empty-gives-none, more-parts}
 
 -- ---- lines that are not empty
-
--- A line that is not empty.
-abbrev pub Filled : Line → Type 0
-Filled [] = ⊥
-Filled (c ∷ line) = Unit
 
 -- Frames that have their heads.
 abbrev pub Long : List (List ℕ) → Type 0

@@ -9,12 +9,12 @@ use lib.ListN.{length}
 use Rattle.laws.specs.Each.{Each, every}
 use Rattle.map.specs.declared.Profile.{Profile}
 use Rattle.hexline.specs.Line.{Station}
-use Rattle.conforming.specs.Groups.{Line, Group}
+use Rattle.conforming.specs.Groups.{Line, Group, Filled}
 use Rattle.conforming.specs.Conforms.{framesFor, afterTC, GiveAll, GroupsConform, packetsIn, framesIn}
 use Rattle.conforming.specs.Findings.{Finding, blank, packet, frame, bad, differs, besideAll, findingsFrom}
 use Rattle.conforming.specs.Verdict.{Verdict, Differs, Refused70, concluded, ruledFrom}
 use Rattle.conforming.specs.Permitted.{passes, FirstAt}
-use Rattle.conforming.proofs.Passing.{Filled, Long, found-frame, found-end, frames-long, passes-conforms}
+use Rattle.conforming.proofs.Passing.{Long, found-frame, found-end, frames-long, passes-conforms}
 
 -- ---- the first that does not pass
 

@@ -1,97 +1,75 @@
--- Where a TM line stands among the groups of a record.
+-- Behind a line that is not empty, what comes next stands in that line's group.
 -- Assumes nothing.
 use mathlib.Core.Path.{_≡_, refl, ap, _∙_}
 use mathlib.Core.List.{List, [], _∷_, _++_}
 use Prim.Native.Nat.{ℕ, suc, _+_}
 use native.Mathlib.Omega.{arith}
 use lib.ListN.{length}
-use Rattle.conforming.specs.Groups.{Line, Group, ahead, groupsOf}
-use Rattle.conforming.proofs.Passing.{Filled}
+use Rattle.laws.specs.Each.{Each}
+use Rattle.conforming.specs.Groups.{Line, Group, Filled, ahead, groupsOf, firstGroup, otherGroups}
+
+-- There is always a group, and a line that is not empty begins the first.
+ahead-some : (c : ℕ) (l : Line) (groups : List Group) → ahead (c ∷ l) groups ≡ ((c ∷ l) ∷ firstGroup groups) ∷ otherGroups groups
+unfolding firstGroup otherGroups
+ahead-some c l [] = refl
+ahead-some c l (g ∷ gs) = refl
+
+pub groups-line : (c : ℕ) (l : Line) (ls : List Line) → groupsOf ((c ∷ l) ∷ ls) ≡ ((c ∷ l) ∷ firstGroup (groupsOf ls)) ∷ otherGroups (groupsOf ls)
+unfolding groupsOf
+groups-line c l ls = ahead-some c l (groupsOf ls)
 
 -- The lines of some groups, each with the empty line that ends it.
 abbrev pub linesIn : List Group → ℕ
 linesIn [] = 0
 linesIn (g ∷ rest) = suc (length g + linesIn rest)
 
--- Whatever line that is not empty stands between two runs of lines, it is a TM line of one group, and the groups beside it are the same.
-pub record Within (xs ys : List Line) : Type 0 where
+-- Where some lines end within a group: whatever comes behind them, up to an empty line, are further TM lines of it.
+pub record Within (xs : List Line) : Type 0 where
   pub earlier : List Group
   pub tc : Line
   pub tms : List Line
-  pub more : List Line
-  pub later : List Group
-  pub groups-are : (line : Line) → Filled line → groupsOf (xs ++ (line ∷ ys)) ≡ earlier ++ ((tc ∷ (tms ++ (line ∷ more))) ∷ later)
+  pub groups-are : (zs : List Line) → groupsOf (xs ++ zs) ≡ earlier ++ ((tc ∷ (tms ++ firstGroup (groupsOf zs))) ∷ otherGroups (groupsOf zs))
   pub as-many : length xs ≡ linesIn earlier + length tms + 1
 
-ahead-filled : (line : Line) (g : Group) (rest : List Group) → Filled line → ahead line (g ∷ rest) ≡ (line ∷ g) ∷ rest
-ahead-filled [] g rest f = absurd f
-ahead-filled (c ∷ line) g rest f = refl
+within-here : (c : ℕ) (t : Line) → Within ((c ∷ t) ∷ [])
+within-here c t = record { earlier = []; tc = c ∷ t; tms = []; groups-are = λ zs. groups-line c t zs; as-many = omega arith }
 
-ahead-none : (line : Line) → Filled line → ahead line [] ≡ (line ∷ []) ∷ []
-ahead-none [] f = absurd f
-ahead-none (c ∷ line) f = refl
-
-within-here : (c : ℕ) (t : Line) (ys : List Line) (groups : List Group) → groupsOf ys ≡ groups → Within ((c ∷ t) ∷ []) ys
+within-behind : (x : Line) (xs : List Line) (earlier : List Group) (tc : Line) (tms : List Line)
+    → ((zs : List Line) → groupsOf (xs ++ zs) ≡ earlier ++ ((tc ∷ (tms ++ firstGroup (groupsOf zs))) ∷ otherGroups (groupsOf zs)))
+    → length xs ≡ linesIn earlier + length tms + 1 → Within (x ∷ xs)
 unfolding groupsOf
-within-here c t ys [] e =
-    record {
-      earlier = [];
-      tc = c ∷ t;
-      tms = [];
-      more = [];
-      later = [];
-      groups-are = λ line f. ap (λ (gs : List Group). ahead (c ∷ t) gs) (ap (ahead line) e ∙ ahead-none line f);
-      as-many = omega arith;
-    }
-within-here c t ys (g ∷ rest) e =
-    record {
-      earlier = [];
-      tc = c ∷ t;
-      tms = [];
-      more = g;
-      later = rest;
-      groups-are = λ line f. ap (λ (gs : List Group). ahead (c ∷ t) gs) (ap (ahead line) e ∙ ahead-filled line g rest f);
-      as-many = omega arith;
-    }
-
-within-behind : (x : Line) (xs ys : List Line) (earlier : List Group) (tc : Line) (tms more : List Line) (later : List Group)
-    → ((line : Line) → Filled line → groupsOf (xs ++ (line ∷ ys)) ≡ earlier ++ ((tc ∷ (tms ++ (line ∷ more))) ∷ later))
-    → length xs ≡ linesIn earlier + length tms + 1 → Within (x ∷ xs) ys
-unfolding groupsOf
-within-behind [] xs ys earlier tc tms more later e l =
-    record {
-      earlier = [] ∷ earlier;
-      tc = tc;
-      tms = tms;
-      more = more;
-      later = later;
-      groups-are = λ line f. ap (λ (gs : List Group). ahead [] gs) (e line f);
-      as-many = omega arith;
-    }
-within-behind (c ∷ x) xs ys [] tc tms more later e l =
-    record {
-      earlier = [];
-      tc = c ∷ x;
-      tms = tc ∷ tms;
-      more = more;
-      later = later;
-      groups-are = λ line f. ap (λ (gs : List Group). ahead (c ∷ x) gs) (e line f);
-      as-many = omega arith;
-    }
-within-behind (c ∷ x) xs ys (g ∷ earlier) tc tms more later e l =
+within-behind [] xs earlier tc tms e l =
+    record { earlier = [] ∷ earlier; tc = tc; tms = tms; groups-are = λ zs. ap (λ (gs : List Group). ahead [] gs) (e zs); as-many = omega arith }
+within-behind (c ∷ x) xs [] tc tms e l =
+    record { earlier = []; tc = c ∷ x; tms = tc ∷ tms; groups-are = λ zs. ap (λ (gs : List Group). ahead (c ∷ x) gs) (e zs); as-many = omega arith }
+within-behind (c ∷ x) xs (g ∷ earlier) tc tms e l =
     record {
       earlier = ((c ∷ x) ∷ g) ∷ earlier;
       tc = tc;
       tms = tms;
-      more = more;
-      later = later;
-      groups-are = λ line f. ap (λ (gs : List Group). ahead (c ∷ x) gs) (e line f);
+      groups-are = λ zs. ap (λ (gs : List Group). ahead (c ∷ x) gs) (e zs);
       as-many = omega arith;
     }
 
--- Behind a line that is not empty, a line that is not empty is such a TM line.
-pub within : (front : List Line) (c : ℕ) (t : Line) (ys : List Line) → Within (front ++ ((c ∷ t) ∷ [])) ys
-within [] c t ys = within-here c t ys (groupsOf ys) refl
-within (x ∷ front) c t ys =
-    let w : Within (front ++ ((c ∷ t) ∷ [])) ys = within front c t ys in
-    within-behind x (front ++ ((c ∷ t) ∷ [])) ys (w .earlier) (w .tc) (w .tms) (w .more) (w .later) (w .groups-are) (w .as-many)
+-- Lines of which the last is not empty end within a group.
+pub within : (front : List Line) (c : ℕ) (t : Line) → Within (front ++ ((c ∷ t) ∷ []))
+within [] c t = within-here c t
+within (x ∷ front) c t =
+    let w : Within (front ++ ((c ∷ t) ∷ [])) = within front c t in
+    within-behind x (front ++ ((c ∷ t) ∷ [])) (w .earlier) (w .tc) (w .tms) (w .groups-are) (w .as-many)
+
+-- A line that is not empty is the next TM line.
+pub within-line : {xs : List Line} (w : Within xs) (line : Line) (ys : List Line) → Filled line
+    → groupsOf (xs ++ (line ∷ ys)) ≡ w .earlier ++ ((w .tc ∷ (w .tms ++ (line ∷ firstGroup (groupsOf ys)))) ∷ otherGroups (groupsOf ys))
+unfolding firstGroup otherGroups
+within-line w [] ys f = absurd f
+within-line w (c ∷ line) ys f =
+    w .groups-are ((c ∷ line) ∷ ys)
+    ∙ ap (λ (gs : List Group). w .earlier ++ ((w .tc ∷ (w .tms ++ firstGroup gs)) ∷ otherGroups gs)) (groups-line c line ys)
+
+-- Lines that are not empty, and an empty one behind them, are a group.
+pub groups-ended : (group rest : List Line) → Each Filled group → groupsOf (group ++ ([] ∷ rest)) ≡ group ∷ groupsOf rest
+unfolding groupsOf
+groups-ended [] rest f = refl
+groups-ended ([] ∷ group) rest f = absurd (f .0)
+groups-ended ((c ∷ line) ∷ group) rest f = ap (λ (gs : List Group). ahead (c ∷ line) gs) (groups-ended group rest (f .1))

@@ -9,6 +9,11 @@ Line = List ℕ
 abbrev pub Group : Type 0
 Group = List Line
 
+-- A line that is not empty.
+abbrev pub Filled : Line → Type 0
+Filled [] = ⊥
+Filled (c ∷ line) = Unit
+
 -- A line before some groups: an empty one ends a group of its own, and any other begins the first.
 abbrev pub ahead : Line → List Group → List Group
 ahead [] groups = [] ∷ groups
@@ -19,3 +24,12 @@ ahead (c ∷ line) (group ∷ rest) = ((c ∷ line) ∷ group) ∷ rest
 unfoldable pub groupsOf : List Line → List Group
 groupsOf [] = [] ∷ []
 groupsOf (line ∷ rest) = ahead line (groupsOf rest)
+
+-- The first of some groups, and those behind it.
+unfoldable pub firstGroup : List Group → Group
+firstGroup [] = []
+firstGroup (group ∷ rest) = group
+
+unfoldable pub otherGroups : List Group → List Group
+otherGroups [] = []
+otherGroups (group ∷ rest) = rest

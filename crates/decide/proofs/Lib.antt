@@ -1,3 +1,4 @@
 pub mod Checked
 pub mod Serving
 pub mod Decided
+pub mod Details

@@ -10,6 +10,7 @@ use lib.ListN.{length, take, drop}
 use lib.Dec.{leb}
 use lib.Seq.{take-append-seam, drop-append-seam}
 use borrow.Author.Tests.{leb-true, le-leb}
+use Rattle.octets.specs.Numbers.{Octets}
 use Rattle.laws.proofs.Tests.{both}
 use Rattle.fields.specs.Fields.{apidOf}
 use Rattle.octets.proofs.Laid.{laid-eq}
@@ -21,7 +22,7 @@ use Rattle.tc.proofs.RoundTrip.{Valid, packet-reads, clean-reads}
 use Rattle.writer.specs.declared.Order.{Order}
 use Rattle.writer.specs.declared.Written.the-variants.{Packet}
 use Rattle.writer.specs.Writer.{fieldsFor, fieldsRight, bufferAfter}
-use Rattle.demands.specs.Packets.{referenceReader, referenceWriter, orderOf, Ordinary, Octets}
+use Rattle.demands.specs.Packets.{referenceReader, referenceWriter, orderOf, Ordinary}
 use Rattle.demands.specs.Refusing.{Writable}
 use Rattle.demands.specs.Serving.{ReadsBack, WritesBack, RoundTrips}
 use Rattle.demands.proofs.Demand1.{fits}

@@ -3,7 +3,6 @@ use mathlib.Core.Path.{_≡_}
 use mathlib.Core.List.{List}
 use Prim.Native.Nat.{ℕ, _/_, _%_, _<_}
 use lib.ListN.{length}
-use Rattle.octets.specs.Numbers.{octet}
 use Rattle.octets.specs.Copy.{placed}
 use Rattle.tc.specs.declared.Fields.{Fields}
 use Rattle.tc.specs.declared.Reading.{Reading}
@@ -46,7 +45,3 @@ pub record Ordinary (f : Fields) : Type 0 where
   pub category-is : f .apid % 16 ≡ category
   pub checksum-is : f .checksum ≡ 1
   pub pad-is : f .pad ≡ 0
-
--- A list of octets.
-abbrev pub Octets : List ℕ → Type 0
-Octets s = (k : ℕ) → octet s k < 256

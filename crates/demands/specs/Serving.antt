@@ -6,7 +6,7 @@ use Prim.Native.Nat.{ℕ, _+_, _≤_}
 use lib.ListN.{length, take, drop}
 use Rattle.laws.specs.Each.{Each}
 use Rattle.laws.specs.Fold.{joined}
-use Rattle.octets.specs.Numbers.{octet}
+use Rattle.octets.specs.Numbers.{Octets, octet}
 use Rattle.checks.specs.declared.Verdict.the-variants.{Accepted}
 use Rattle.checks.specs.Verdict.{isAccepted}
 use Rattle.tc.specs.Layout.{around, fieldsOf, applicationOf}
@@ -29,7 +29,7 @@ use Rattle.laying.specs.Reports.{echo, asked, asksAcceptance, asksCompletion}
 use Rattle.terminal.specs.Outcome.{Input, doneBy, stateAfter, verdictOn}
 use Rattle.terminal.specs.Run.{Machine, Step, Answer, inputFor, after}
 use Rattle.demands.specs.Terminal.{Terminal, askedOn}
-use Rattle.demands.specs.Packets.{Reader, handed, Write, Writer, orderOf, Ordinary, Octets}
+use Rattle.demands.specs.Packets.{Reader, handed, Write, Writer, orderOf, Ordinary}
 use Rattle.demands.specs.Refusing.{Writable}
 use Rattle.demands.specs.Loading.{Loads, GivesBack}
 

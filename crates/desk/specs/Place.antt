@@ -1,7 +1,7 @@
 -- What goes from line to line in a program over lines: its desk, the store and the output buffer.
-use mathlib.Core.Bool.{Bool, false, not}
+use mathlib.Core.Bool.{Bool, not}
 use mathlib.Core.List.{List}
-use Prim.Native.Nat.{ℕ, _+_, _%_, _^_}
+use Prim.Native.Nat.{ℕ}
 use lib.Dec.{eqb}
 use denote.Ref.{RefT, now}
 use Rattle.map.specs.declared.Profile.{Profile}
@@ -11,7 +11,8 @@ use Rattle.unit.specs.declared.Draft.{Draft}
 use Rattle.hexline.specs.Line.{Station}
 use Rattle.packline.specs.declared.Halt.{Halt}
 use Rattle.packline.specs.Record.{goesOn}
-use Rattle.desk.specs.declared.Group.{Group}
+use Rattle.grouping.specs.declared.Group.{Group}
+use Rattle.grouping.specs.Group.{nextNumber, noGroup}
 use Rattle.desk.specs.declared.Desk.{Desk}
 
 -- A desk, the store and the output buffer.
@@ -24,10 +25,6 @@ pub record Place : Type 0 where
 abbrev pub placeOf : Desk → RefT (List ℕ) → RefT (List ℕ) → Place
 placeOf desk store out = record { desk = desk; store = now store; out = now out }
 
--- Before the first packet of a record.
-abbrev pub noGroup : Group
-noGroup = record { «open» = false; some = false; from = 0; end = 0; packet = 0; packets = 0; frames = 0 }
-
 -- A desk before the first line: counts of 0, no line passed, no group, nothing that stops the program.
 abbrev pub deskFor : Draft → Desk
 deskFor draft = record { draft = draft; state = record { counts = noCounts }; number = 0; group = noGroup; halt = goesOn }
@@ -38,10 +35,6 @@ profileAt m = m .desk .draft .profile
 
 abbrev pub stationAt : Place → Station
 stationAt m = record { machine = record { state = m .desk .state; store = m .store }; out = m .out }
-
--- The number of the next line, in 64 bits.
-abbrev pub nextNumber : ℕ → ℕ
-nextNumber n = (n + 1) % 2 ^ 64
 
 -- A desk with another unit, other counts, at another place of a record, one line further, or with a reason to stop.
 abbrev pub withDraft : Desk → Draft → Desk

@@ -1,5 +1,6 @@
 // What goes from line to line in a program over lines: its desk.
 use decide::State;
+use grouping::Group;
 use packline::GOES_ON;
 use packline::Halt;
 use unit::Draft;
@@ -7,19 +8,8 @@ ghost use mathlib.Core.Path.{_≡_};
 ghost use Prim.Native.Nat.{min, _+_};
 ghost use lib.ListN.{length};
 ghost use Rattle.packline.specs.Record.{goesOn};
-ghost use Rattle.desk.specs.Place.{noGroup, deskFor, withDraft, withState, withGroup, isHalted};
+ghost use Rattle.desk.specs.Place.{deskFor, withDraft, withState, withGroup, isHalted};
 ghost use Rattle.desk.specs.Place.{counted as Counted, halting as Halting};
-
-// A group of a record: whether a line stands in one, between which places of the output buffer the frames stand that are due and not compared yet, and the line of its packet; and of the whole record whether it has a packet, and how many packets and frames were compared.
-pub struct Group {
-    pub open: bool,
-    pub some: bool,
-    pub from: usize,
-    pub end: usize,
-    pub packet: u64,
-    pub packets: u64,
-    pub frames: u64,
-}
 
 // What goes from line to line beside the store and the output buffer: the unit, the counts, how many lines are passed, the group of a record, and what stops the program.
 pub struct Desk {
@@ -47,21 +37,6 @@ fn goes_on() -> Halt
     }
 }
 
-// Before the first packet of a record.
-fn no_group() -> Group
-    ensures { λ r. ⌜ r ≡ noGroup ⌝ }
-{
-    Group {
-        open: false,
-        some: false,
-        from: 0,
-        end: 0,
-        packet: 0,
-        packets: 0,
-        frames: 0,
-    }
-}
-
 // Before the first line.
 pub fn start(draft: Draft) -> Desk
     ensures { λ r. ⌜ r ≡ deskFor draft ⌝ }
@@ -72,7 +47,7 @@ pub fn start(draft: Draft) -> Desk
             counts: counts::none(),
         },
         number: 0,
-        group: no_group(),
+        group: grouping::start(),
         halt: goes_on(),
     }
 }

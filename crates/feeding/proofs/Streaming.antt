@@ -2,16 +2,23 @@
 -- Assumes nothing.
 use mathlib.Core.Path.{_≡_, refl}
 use mathlib.Core.Bool.{true}
-use mathlib.Core.List.{List, [], _++_}
+use mathlib.Core.List.{List, [], _∷_, _++_}
 use Prim.Native.Nat.{ℕ, _≤_, _<_}
 use native.Mathlib.Omega.{arith}
 use lib.ListN.{length, replicate}
+use lib.Dec.{leb}
+use Rattle.octets.specs.Numbers.{Octets}
+use Rattle.octets.proofs.Octets.{zero-octets}
 use Rattle.characters.specs.Digits.{textOf}
-use Rattle.laws.specs.Fold.{joined}
+use Rattle.laws.specs.Fold.{reached, joined}
+use Rattle.laws.proofs.Tests.{by-test}
+use Rattle.lines.specs.Lines.{linesOf}
 use Rattle.lines.specs.Turn.{Turn, lastSays, lastBecomes, turnsOf}
-use Rattle.lines.specs.Feed.{outputOf}
+use Rattle.lines.specs.Feed.{lineBecomes, outputOf}
 use Rattle.lines.proofs.Turns.{Fits}
 use Rattle.lines.proofs.Whole.{LineFits, pieces-fit, stream-lines, stream-reached}
+use Rattle.packetline.specs.Packet.{lineMost}
+use Rattle.map.specs.Sound.{storeMost}
 use Rattle.hexline.specs.Whole.{answerRoom}
 use Rattle.hexline.proofs.Serving.{line-answer-most}
 use Rattle.tasks.specs.declared.Task.{Task}
@@ -19,6 +26,7 @@ use Rattle.tasks.specs.declared.Task.the-variants.{Line, Unit, Pack, Judge}
 use Rattle.desk.specs.declared.Desk.{Desk}
 use Rattle.desk.specs.Place.{Place, profileAt, stationAt}
 use Rattle.tasks.specs.Tasks.{taskSays, taskLongSays, taskProgram}
+use Rattle.unitstep.proofs.Units.{unit-octets}
 use Rattle.packstep.proofs.Packing.{pack-most, long-most}
 use Rattle.judgestep.proofs.Lengths.{judge-most, judge-long-most}
 use Rattle.feeding.specs.Feed.{pieceProgram}
@@ -51,9 +59,30 @@ module _ (t : Task) where
       s .said ++ lastSays (pieceProgram t) (s .after) (s .begins) (s .left) ≡ outputOf (taskProgram t) m (joined parts))
   stream-whole room n m parts r h = stream-lines (taskProgram t) task-fits room n m parts r h
 
+  -- And where it is behind those parts, it is behind the whole.
+  pub stream-behind : (room n : ℕ) (m : Place) (parts : List (List ℕ)) → answerRoom ≤ room → length (joined parts) < n
+      → (let s : Turn Place = turnsOf (pieceProgram t) room true m true [] (parts ++ replicate n []) in
+      lastBecomes (pieceProgram t) (s .after) (s .begins) (s .left) ≡ reached (lineBecomes (taskProgram t)) m (linesOf (joined parts)))
+  stream-behind room n m parts r h = stream-reached (taskProgram t) task-fits room n m parts r h
+
 -- However a unit file is divided, the reader of unit files is behind its parts where it is behind the whole.
 pub stream-unit : (room n : ℕ) (parts : List (List ℕ)) → answerRoom ≤ room → length (joined parts) < n
     → (let s : Turn Place = turnsOf (pieceProgram Unit) room true unitFirst true [] (parts ++ replicate n []) in
     lastBecomes (pieceProgram Unit) (s .after) (s .begins) (s .left) ≡ unitBehind (joined parts))
 unfolding unitBehind
-stream-unit room n parts r h = stream-reached (taskProgram Unit) (task-fits Unit) room n unitFirst parts r h
+stream-unit room n parts r h = stream-behind Unit room n unitFirst parts r h
+
+-- ---- a unit's store
+
+-- A store of octets stays one.
+reached-octets : (m : Place) (lines : List (List ℕ)) → Octets (m .store) → Octets (reached (lineBecomes (taskProgram Unit)) m lines .store)
+unfolding reached
+reached-octets m [] h = h
+reached-octets m (l ∷ ls) h =
+    reached-octets (lineBecomes (taskProgram Unit) m l) ls
+    (by-test (leb (length l) lineMost) (λ t. rw t (unit-octets (m .desk) (m .store) l h)) (λ e. rw e h))
+
+-- What a unit file states of its store is octets.
+pub behind-octets : (file : List ℕ) → Octets (unitBehind file .store)
+unfolding unitBehind
+behind-octets file = reached-octets unitFirst (linesOf file) (zero-octets storeMost)

@@ -13,7 +13,7 @@ use Rattle.laws.proofs.Tests.{by-test}
 use Rattle.laws.proofs.Order.{by-order}
 use Rattle.map.specs.declared.Profile.{Profile}
 use Rattle.terminal.specs.declared.Outcome.{Outcome}
-use Rattle.terminal.specs.Outcome.{Input, verdictOn, framesDue, octetsDue, outAfter, Answered}
+use Rattle.terminal.specs.Outcome.{Input, verdictOn, framesDue, octetsDue, outAfter, storeOn, Answered}
 use Rattle.hexline.specs.declared.Written.{Written}
 use Rattle.saying.specs.Text.{Says}
 use Rattle.saying.proofs.Saying.{says-as}
@@ -53,6 +53,11 @@ module _ (p : Profile) (m : Station) (packet : List ℕ) where
   pub after-out : packetAfter p m packet .out ≡ outAfter (packetInput p m packet)
   unfolding packetAfter
   after-out = refl
+
+  -- And the store.
+  pub after-store : packetAfter p m packet .machine .store ≡ storeOn (packetInput p m packet)
+  unfolding packetAfter
+  after-store = refl
 
   -- What is said of a packet that the terminal answered, and what goes on from it.
   pub served-said : {answer : List ℕ} {at : ℕ} {text : List ℕ} {r : Outcome} {store out t : List ℕ} {end : ℕ} → Answered (packetInput p m packet) r store out

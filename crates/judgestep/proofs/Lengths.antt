@@ -19,17 +19,15 @@ use Rattle.telling.specs.Telling.{haltLine}
 use Rattle.telling.proofs.Lengths.{halt-line-most}
 use Rattle.beside.specs.Beside.{agrees}
 use Rattle.differing.proofs.Telling.{differs-most}
-use Rattle.desk.specs.declared.Group.{Group}
+use Rattle.grouping.specs.Group.{nextNumber, dueAt}
+use Rattle.grouping.proofs.Left.{due-room}
 use Rattle.desk.specs.declared.Desk.{Desk}
-use Rattle.desk.specs.Place.{Place, nextNumber, counted, isHalted, counting}
-use Rattle.judgestep.specs.Step.{leftAt, frameRoom, dueAt, badSays, outsideSays, insideSays, judgeSays, judgeLongSays}
+use Rattle.desk.specs.Place.{Place, counted, isHalted, counting}
+use Rattle.judgestep.specs.Step.{badSays, outsideSays, insideSays, judgeSays, judgeLongSays}
 use Rattle.judgestep.proofs.Judging.{stopped, cond-inside, cond-outside}
 
 bad-most : (n : ℕ) (h : Halt) → length (badSays n h) ≤ answerRoom
 bad-most n h = omega (arith, length-append (refusedAt n) (haltLine h), refused-most n, halt-line-most h)
-
-due-room : (g : Group) (out : List ℕ) → length (dueAt g out) ≤ frameRoom
-due-room g out = omega (arith, length-take frameRoom (take (frameSize (leftAt g out)) (leftAt g out)))
 
 outside-most : (m : Place) (line : List ℕ) → length (outsideSays m line) ≤ answerRoom
 unfolding outsideSays

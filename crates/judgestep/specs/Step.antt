@@ -16,9 +16,10 @@ use Rattle.packline.specs.Record.{haltLong, haltOf, refusedAt}
 use Rattle.telling.specs.Telling.{haltLine}
 use Rattle.beside.specs.Beside.{agrees}
 use Rattle.differing.specs.Differing.{differsText}
-use Rattle.desk.specs.declared.Group.{Group}
+use Rattle.grouping.specs.declared.Group.{Group}
+use Rattle.grouping.specs.Group.{nextNumber, dueAt, opened, compared, closed}
 use Rattle.desk.specs.declared.Desk.{Desk}
-use Rattle.desk.specs.Place.{Place, profileAt, stationAt, nextNumber, withGroup, counted, halting, isHalted, atDesk, counting, atStation}
+use Rattle.desk.specs.Place.{Place, profileAt, stationAt, withGroup, counted, halting, isHalted, atDesk, counting, atStation}
 
 -- Why the judge stops where no line is refused: a line differs, or there is no packet.
 abbrev pub haltDiffers : Halt
@@ -26,38 +27,6 @@ haltDiffers = record { kind = 4; place = 0; octet = 0 }
 
 abbrev pub haltNone : Halt
 haltNone = record { kind = 5; place = 0; octet = 0 }
-
--- ---- the frames due that are left in a group
-
--- Those that stand from a place on, at the front of the output buffer.
-abbrev pub leftAt : Group → List ℕ → List ℕ
-leftAt g out = drop (g .from) (take (g .end) out)
-
--- The first of them, of which at most 4,096 octets are looked at, and none where none is left. No answer of the terminal has more.
-abbrev pub frameRoom : ℕ
-frameRoom = 4096
-
-abbrev pub dueAt : Group → List ℕ → List ℕ
-dueAt g out = take frameRoom (take (frameSize (leftAt g out)) (leftAt g out))
-
--- Where it ends.
-abbrev pub dueEnd : Group → List ℕ → ℕ
-dueEnd g out = min (g .from + frameSize (leftAt g out)) (length (take (g .end) out))
-
--- ---- places of a record
-
--- Behind a packet: its frames are due, so many octets at the front of the output buffer.
-abbrev pub opened : Group → ℕ → ℕ → Group
-opened g number octets =
-    record { «open» = true; some = true; from = 0; end = octets; packet = number; packets = nextNumber (g .packets); frames = g .frames }
-
--- Behind a frame that agrees, and behind the line that ends a group.
-abbrev pub compared : Group → List ℕ → Group
-compared g out =
-    record { «open» = true; some = g .some; from = dueEnd g out; end = g .end; packet = g .packet; packets = g .packets; frames = nextNumber (g .frames) }
-
-abbrev pub closed : Group → Group
-closed g = record { «open» = false; some = g .some; from = g .from; end = g .end; packet = g .packet; packets = g .packets; frames = g .frames }
 
 -- ---- one line, which is counted already
 

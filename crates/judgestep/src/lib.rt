@@ -1,7 +1,6 @@
 // The judge, line by line: a packet is answered by the reference, and the lines behind it are set beside the frames due.
 use desk::Desk;
 use desk::Done;
-use desk::Group;
 use packline::Halt;
 use packline::LONG;
 ghost use mathlib.Core.Path.{_≡_};
@@ -10,15 +9,12 @@ ghost use Rattle.packline.specs.Record.{haltOf, haltLong};
 ghost use Rattle.differing.specs.Differing.{differsText};
 ghost use Rattle.desk.specs.Place.{placeOf, halting};
 ghost use Rattle.desk.specs.Did.{DidBy};
-ghost use Rattle.judgestep.specs.Step.{haltDiffers, haltNone, dueAt, dueEnd, compared, closed, opened, badSays, servedAt, outsideSays, outsideBecomes, insideSays, insideDesk, agreedDesk, judgeSays, judgeBecomes, judgeLongSays, judgeLongDesk, conformingText, closingSays, closingDesk, endSays, endBecomes};
+ghost use Rattle.judgestep.specs.Step.{haltDiffers, haltNone, badSays, servedAt, outsideSays, outsideBecomes, insideSays, insideDesk, agreedDesk, judgeSays, judgeBecomes, judgeLongSays, judgeLongDesk, conformingText, closingSays, closingDesk, endSays, endBecomes};
 
 // Why the judge stops where no line is refused: a line differs, or there is no packet.
 pub const DIFFERS: u8 = 4;
 
 pub const NO_PACKET: u8 = 5;
-
-// The most octets of a frame that are looked at.
-const FRAME_ROOM: usize = 4096;
 
 // A reason to stop that tells no character.
 fn halt(kind: u8) -> Halt
@@ -29,52 +25,6 @@ fn halt(kind: u8) -> Halt
         place: 0,
         octet: 0,
     }
-}
-
-// The first of the frames due that are left.
-fn due(g: Group, out: &[u8]) -> &[u8]
-    ensures { λ r. ⌜ now r ≡ dueAt g (now (out .entry)) ⌝ }
-{
-    let frames = lines::front(out, g.end);
-    let left = lines::piece(frames, g.from, frames.len());
-    let frame = lines::front(left, tm::frame_end(left, 0));
-    lines::front(frame, FRAME_ROOM)
-}
-
-// Behind a packet whose frames are so many octets.
-fn open(g: Group, number: u64, octets: usize) -> Group
-    ensures { λ r. ⌜ r ≡ opened g number octets ⌝ }
-{
-    Group {
-        open: true,
-        some: true,
-        from: 0,
-        end: octets,
-        packet: number,
-        packets: std::num::wrapping_add_u64(g.packets, 1),
-        frames: g.frames,
-    }
-}
-
-// Behind a frame that agrees.
-fn compare(g: Group, out: &[u8]) -> Group
-    ensures { λ r. ⌜ r ≡ compared g (now (out .entry)) ⌝ }
-{
-    let end = tm::frame_end(lines::front(out, g.end), g.from);
-    let mut next = g;
-    next.open = true;
-    next.from = end;
-    next.frames = std::num::wrapping_add_u64(g.frames, 1);
-    next
-}
-
-// Behind the line that ends a group.
-fn close(g: Group) -> Group
-    ensures { λ r. ⌜ r ≡ closed g ⌝ }
-{
-    let mut next = g;
-    next.open = false;
-    next
 }
 
 // `refused 70`, the number of the line and why, and the judge stops.
@@ -96,7 +46,7 @@ fn serve(d: Desk, line: &[u8], store: &mut [u8], out: &mut [u8]) -> Desk
 {
     let draft = d.draft;
     let outcome = hexline::serve(draft.profile, d.state, line, store, out);
-    let group = open(d.group, d.number, outcome.written);
+    let group = grouping::open(d.group, d.number, outcome.written);
     desk::with_state(desk::with_group(d, group), outcome.state)
 }
 
@@ -125,9 +75,9 @@ fn agreed(d: Desk, line: &[u8], out: &[u8]) -> Desk
     ensures { λ r. ⌜ r ≡ agreedDesk d (now (out .entry)) (now (line .entry)) ⌝ }
 {
     if line.len() == 0 {
-        return desk::with_group(d, close(d.group));
+        return desk::with_group(d, grouping::close(d.group));
     }
-    desk::with_group(d, compare(d.group, out))
+    desk::with_group(d, grouping::compare(d.group, out))
 }
 
 // What is told of a line that differs, and the judge stops.
@@ -151,7 +101,7 @@ fn inside(d: Desk, line: &[u8], out: &[u8], text: &mut [u8], at: usize) -> Done
     if !packetline::is_packet(line) {
         return refused(d, packline::why(line), text, at);
     }
-    let frame = due(d.group, out);
+    let frame = grouping::due(d.group, out);
     if beside::agree(frame, line) {
         return desk::nothing(agreed(d, line, out), text, at);
     }

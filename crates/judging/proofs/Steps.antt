@@ -31,11 +31,13 @@ use Rattle.conforming.specs.Conforms.{framesFor, afterTC}
 use Rattle.conforming.specs.Findings.{Finding, blank, packet, frame, bad, differs, firstOf, restOf, findingOf, findingTC}
 use Rattle.conforming.specs.Verdict.{Differs, Refused70, concluded}
 use Rattle.conforming.proofs.Giving.{empty-packet, more-parts}
-use Rattle.desk.specs.declared.Group.{Group}
+use Rattle.grouping.specs.declared.Group.{Group}
+use Rattle.grouping.specs.Group.{nextNumber, frameRoom, leftAt, dueAt, compared, closed, opened}
+use Rattle.grouping.proofs.Left.{due-first, due-none}
 use Rattle.desk.specs.declared.Desk.{Desk}
-use Rattle.desk.specs.Place.{Place, profileAt, stationAt, nextNumber, withGroup, counted, halting, isHalted, atDesk, counting}
-use Rattle.judgestep.specs.Step.{haltDiffers, frameRoom, leftAt, dueAt, compared, closed, opened, servedAt, agreedDesk, conformingText, closingSays, judgeSays, judgeBecomes}
-use Rattle.judgestep.proofs.Judging.{cond-inside, cond-outside, outside-empty, outside-packet, outside-bad, inside-bad, inside-agrees, inside-differs, agreed-frame, agreed-empty, long-going, closing-some, closing-none, stopped, long-stopped, due-first, due-none}
+use Rattle.desk.specs.Place.{Place, profileAt, stationAt, withGroup, counted, halting, isHalted, atDesk, counting}
+use Rattle.judgestep.specs.Step.{haltDiffers, servedAt, agreedDesk, conformingText, closingSays, judgeSays, judgeBecomes}
+use Rattle.judgestep.proofs.Judging.{cond-inside, cond-outside, outside-empty, outside-packet, outside-bad, inside-bad, inside-agrees, inside-differs, agreed-frame, agreed-empty, long-going, closing-some, closing-none, stopped, long-stopped}
 use Rattle.tasks.specs.declared.Task.the-variants.{Judge}
 use Rattle.tasks.specs.Tasks.{taskProgram}
 use Rattle.judging.specs.Output.{told, reasonOf, verdictText}
@@ -109,7 +111,7 @@ bad-stops m k line e h says-is halted =
     let short = short-says m line h in
     record {
       said-is = short .0 ∙ says-is ∙ ap (λ (n : ℕ). refusedAt n ++ haltLine (haltOf line)) (next (m .desk .number) k e)
-      ∙ ap (λ (r : Halt). refusedAt (told (k + 1)) ++ haltLine r) (sym (reason line h));
+          ∙ ap (λ (r : Halt). refusedAt (told (k + 1)) ++ haltLine r) (sym (reason line h));
       halted = ap (λ (x : Place). isHalted (x .desk)) (short .1) ∙ halted;
     }
   where
@@ -124,17 +126,19 @@ module _ (p : Profile) (s : Station) (m : Place) (k packets frames : ℕ) (o : O
   outside-blank =
       let c = cond-outside m [] (o .going) (o .shut) in
       let e = outside-empty (counting m) [] refl in
-      let there : judgeBecomes m [] ≡ counting m = c .1 ∙ e .1 in
-      (c .0 ∙ e .0, rw there (record {
-        profile-is = o .profile-is;
-        station-is = o .station-is;
-        going = o .going;
-        shut = o .shut;
-        number-is = next (m .desk .number) k (o .number-is);
-        some-is = o .some-is;
-        packets-is = o .packets-is;
-        frames-is = o .frames-is;
-      }))
+      let there : judgeBecomes m [] ≡ counting m = c .1 ∙ e .1 in (
+        c .0 ∙ e .0,
+        rw there (record {
+          profile-is = o .profile-is;
+          station-is = o .station-is;
+          going = o .going;
+          shut = o .shut;
+          number-is = next (m .desk .number) k (o .number-is);
+          some-is = o .some-is;
+          packets-is = o .packets-is;
+          frames-is = o .frames-is;
+        }),
+      )
 
   -- A line that is no packet line is refused.
   pub outside-refused : (c : ℕ) (line : List ℕ) → isPacket (c ∷ line) ≡ false → Stopped m (c ∷ line) (verdictText (Refused70 (k + 1) (c ∷ line)))
@@ -160,20 +164,22 @@ module _ (p : Profile) (s : Station) (m : Place) (k packets frames : ℕ) (o : O
       let same : i ≡ packetInput p s (octetsIn l) = λ j. packetInput (o .profile-is j) (o .station-is j) (packet-in l t j) in
       let out : packetAfter (profileAt m) (stationAt m) (packetIn l) .out ≡ outAfter i = after-out (profileAt m) (stationAt m) (packetIn l) in
       let front : take (length (octetsDue i)) (packetAfter (profileAt m) (stationAt m) (packetIn l) .out) ≡ octetsDue i =
-      ap (λ (b : List ℕ). take (length (octetsDue i)) b) out ∙ front-due i in
-      (short .0 ∙ d .0 ∙ e .0, rw there (record {
-        profile-is = o .profile-is;
-        station-is = λ j. packetAfter (o .profile-is j) (o .station-is j) (packet-in l t j);
-        going = o .going;
-        ajar = refl;
-        number-is = next (m .desk .number) k (o .number-is);
-        some-is = sym (lt-ltb 0 (packets + 1) (omega arith));
-        packets-is = next (m .desk .group .packets) packets (o .packets-is);
-        frames-is = o .frames-is;
-        packet-is = next (m .desk .number) k (o .number-is);
-        due-is = ap cut front ∙ due-cut i ∙ ap framesDue same;
-        room = omega (arith, ap length front, due-bounded i);
-      }))
+      ap (λ (b : List ℕ). take (length (octetsDue i)) b) out ∙ front-due i in (
+        short .0 ∙ d .0 ∙ e .0,
+        rw there (record {
+          profile-is = o .profile-is;
+          station-is = λ j. packetAfter (o .profile-is j) (o .station-is j) (packet-in l t j);
+          going = o .going;
+          ajar = refl;
+          number-is = next (m .desk .number) k (o .number-is);
+          some-is = sym (lt-ltb 0 (packets + 1) (omega arith));
+          packets-is = next (m .desk .group .packets) packets (o .packets-is);
+          frames-is = o .frames-is;
+          packet-is = next (m .desk .number) k (o .number-is);
+          due-is = ap cut front ∙ due-cut i ∙ ap framesDue same;
+          room = omega (arith, ap length front, due-bounded i);
+        }),
+      )
 
   -- What is said at the end of the input, where the judge stands outside of a group.
   pub outside-closing : closingSays (m .desk) ≡ verdictText (concluded packets frames)
@@ -232,37 +238,41 @@ module _ (p : Profile) (s : Station) (m : Place) (k packets frames tc : ℕ) (du
   -- The empty line that ends the group.
   pub inside-ended : agrees (firstOf due) (octetsIn []) ≡ true → (says m [] ≡ []) × Outside p s (becomes m []) (k + 1) packets frames
   inside-ended a =
-      let e = agreed-there [] empty-packet a in
-      (e .0, rw (e .1) (record {
-        profile-is = o .profile-is;
-        station-is = o .station-is;
-        going = o .going;
-        shut = refl;
-        number-is = next (m .desk .number) k (o .number-is);
-        some-is = o .some-is;
-        packets-is = o .packets-is;
-        frames-is = o .frames-is;
-      }))
+      let e = agreed-there [] empty-packet a in (
+        e .0,
+        rw (e .1) (record {
+          profile-is = o .profile-is;
+          station-is = o .station-is;
+          going = o .going;
+          shut = refl;
+          number-is = next (m .desk .number) k (o .number-is);
+          some-is = o .some-is;
+          packets-is = o .packets-is;
+          frames-is = o .frames-is;
+        }),
+      )
 
   -- A TM line that gives the frame due.
   pub inside-given : (c : ℕ) (line : List ℕ) → isPacket (c ∷ line) ≡ true → agrees (firstOf due) (octetsIn (c ∷ line)) ≡ true
       → (says m (c ∷ line) ≡ []) × Inside p s (becomes m (c ∷ line)) (k + 1) packets (frames + 1) tc (restOf due)
   inside-given c line t a =
       let e = agreed-there (c ∷ line) t a in
-      let some : 0 < length (leftAt (m .desk .group) (m .out)) = left-some c line t a in
-      (e .0, rw (e .1) (record {
-        profile-is = o .profile-is;
-        station-is = o .station-is;
-        going = o .going;
-        ajar = refl;
-        number-is = next (m .desk .number) k (o .number-is);
-        some-is = o .some-is;
-        packets-is = o .packets-is;
-        frames-is = next (m .desk .group .frames) frames (o .frames-is);
-        packet-is = o .packet-is;
-        due-is = rest-is some;
-        room = o .room;
-      }))
+      let some : 0 < length (leftAt (m .desk .group) (m .out)) = left-some c line t a in (
+        e .0,
+        rw (e .1) (record {
+          profile-is = o .profile-is;
+          station-is = o .station-is;
+          going = o .going;
+          ajar = refl;
+          number-is = next (m .desk .number) k (o .number-is);
+          some-is = o .some-is;
+          packets-is = o .packets-is;
+          frames-is = next (m .desk .group .frames) frames (o .frames-is);
+          packet-is = o .packet-is;
+          due-is = rest-is some;
+          room = o .room;
+        }),
+      )
     where
       left-some : (c : ℕ) (line : List ℕ) → isPacket (c ∷ line) ≡ true → agrees (firstOf due) (octetsIn (c ∷ line)) ≡ true → 0 < length (leftAt (m .desk .group) (m .out))
       left-some c line t a =

@@ -29,6 +29,8 @@ use Rattle.judgestep.specs.Step.{judgeBecomes, closingSays, endSays}
 use Rattle.judgestep.proofs.Judging.{closing-halted}
 use Rattle.tasks.specs.declared.Task.the-variants.{Judge}
 use Rattle.tasks.specs.Tasks.{taskProgram}
+use Rattle.feeding.specs.Feed.{pieceProgram}
+use Rattle.feeding.proofs.Streaming.{stream-whole, stream-behind}
 use Rattle.judging.specs.Output.{verdictText, judgedBy}
 use Rattle.judging.proofs.Steps.{says, becomes, Outside, Inside, Stopped, still, outside-blank, outside-refused, outside-served, outside-closing, inside-refused, inside-parted, inside-ended, inside-given}
 
@@ -151,3 +153,13 @@ begun m e = record {
 pub judge-verdict : (m : Place) (text : List ℕ) → Begins m → judgedBy m text ≡ verdictText (verdictOf (profileAt m) (stationAt m) (linesOf text))
 unfolding judgedBy outputOf
 judge-verdict m text e = said (linesOf text) .0 (profileAt m) (stationAt m) m 0 0 0 (begun m e) ∙ ap verdictText (reading.whole (profileAt m) (stationAt m) (linesOf text))
+
+-- However a record is divided: what is said of its parts in turn, then in turns without more input until no whole piece is left, then of the last piece and at the end, is the text of the verdict on the lines of the whole.
+pub stream-judge : (room n : ℕ) (m : Place) (parts : List (List ℕ)) → Begins m → answerRoom ≤ room → length (joined parts) < n
+    → (let s : Turn Place = turnsOf (pieceProgram Judge) room true m true [] (parts ++ replicate n []) in
+    (s .said ++ lastSays (pieceProgram Judge) (s .after) (s .begins) (s .left)) ++ endSays (lastBecomes (pieceProgram Judge) (s .after) (s .begins) (s .left))
+    ≡ verdictText (verdictOf (profileAt m) (stationAt m) (linesOf (joined parts))))
+unfolding judgedBy
+stream-judge room n m parts e r h =
+    ap₂ (λ (said : List ℕ) (behind : Place). said ++ endSays behind) (stream-whole Judge room n m parts r h) (stream-behind Judge room n m parts r h)
+    ∙ judge-verdict m (joined parts) e

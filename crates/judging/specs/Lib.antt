@@ -1,1 +1,3 @@
 pub mod Output
+pub mod Printed
+pub mod Changed

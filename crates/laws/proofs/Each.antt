@@ -2,7 +2,7 @@
 -- Assumes nothing.
 use mathlib.Core.Bool.{Bool, true, false, false≢true}
 use mathlib.Core.Logic.{⊎-elim}
-use mathlib.Core.List.{List, [], _∷_, _++_, List·Memᴰ, List·Memᴰ·head, List·Memᴰ·tail}
+use mathlib.Core.List.{List, [], _∷_, _++_, map, List·Memᴰ, List·Memᴰ·head, List·Memᴰ·tail}
 use mathlib.Core.Path.{_≡_, refl, sym, ap, _∙_}
 use Prim.Native.Nat.{ℕ}
 use lib.Dec.{eqb}
@@ -19,6 +19,16 @@ each-so (x ∷ xs) so h = (so x (h .0), each-so xs so (h .1))
 pub each-both : {A : Type 0} (P Q : A → Type 0) (xs : List A) → Each P xs → Each Q xs → Each (λ (x : A). P x × Q x) xs
 each-both P Q [] p q = tt
 each-both P Q (x ∷ xs) p q = ((p .0, q .0), each-both P Q xs (p .1) (q .1))
+
+-- What each of two lists has, each of the two joined has.
+pub each-append : {A : Type 0} (P : A → Type 0) (xs ys : List A) → Each P xs → Each P ys → Each P (xs ++ ys)
+each-append P [] ys h l = l
+each-append P (x ∷ xs) ys h l = (h .0, each-append P xs ys (h .1) l)
+
+-- What each element is mapped to has a property, where each element gives it.
+pub each-map : {A B : Type 0} (P : B → Type 0) (f : A → B) (xs : List A) → Each (λ (x : A). P (f x)) xs → Each P (map f xs)
+each-map P f [] h = tt
+each-map P f (x ∷ xs) h = (h .0, each-map P f xs (h .1))
 
 -- A test that holds of each element of a list holds of one in it.
 pub every-member : {A : Type 0} (test : A → Bool) {a : A} {l : List A} → List·Memᴰ a l → every test l ≡ true → test a ≡ true

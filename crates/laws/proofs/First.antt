@@ -4,8 +4,9 @@ use mathlib.Core.Path.{_≡_, refl}
 use mathlib.Core.Bool.{Bool, true, false}
 use mathlib.Core.Logic.{_⊎_, inl, inr, ⊎-elim}
 use mathlib.Core.List.{List, [], _∷_, map}
-use Prim.Native.Nat.{ℕ, suc, _≤_}
+use Prim.Native.Nat.{ℕ, suc, _+_, _≤_}
 use native.Mathlib.Omega.{arith}
+use lib.ListN.{length}
 use Rattle.laws.specs.Each.{Each}
 use Rattle.laws.specs.First.{firstFrom}
 use Rattle.laws.proofs.Tests.{by-test}
@@ -50,3 +51,12 @@ implied-later f g (x ∷ xs) k h so =
     by-test (f x)
     (λ t. rw (t, so x t) (implied-later f g xs (suc k) (omega arith) so))
     (λ w. rw w (⊎-elim (λ e. inl e) (λ r. inr (h, r)) (first-reached k (map g (x ∷ xs)))))
+
+-- The first test that fails is one of them.
+pub first-most : (k : ℕ) (tests : List Bool) → firstFrom k tests ≤ k + length tests
+unfolding firstFrom
+first-most k [] = omega arith
+first-most k (test ∷ rest) =
+    by-test test
+    (λ t. rw t (omega (arith, first-most (suc k) rest)))
+    (λ w. rw w (omega arith))

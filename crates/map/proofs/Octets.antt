@@ -8,9 +8,11 @@ use Prim.Native.Nat.{ℕ, _+_, _*_, _-_, _^_, _≤_, _<_}
 use native.Mathlib.Omega.{arith}
 use lib.ListN.{length}
 use borrow.Author.Tests.{leb-true, leb-false}
+use Rattle.octets.specs.Numbers.{Octets}
 use Rattle.octets.specs.Copy.{laid, between}
 use Rattle.octets.proofs.Between.{between-most}
 use Rattle.octets.proofs.Laid.{laid-read}
+use Rattle.octets.proofs.Octets.{between-octets}
 use Rattle.map.specs.declared.Area.{Area}
 use Rattle.map.specs.declared.Found.the-variants.{At}
 use Rattle.map.specs.declared.Profile.{Profile}
@@ -142,3 +144,8 @@ unfolding storedAt
 stored-laid a store start words s long room =
     ap (λ (n : ℕ). between (octetAt a start) (octetAt a start + n) (laid store (octetAt a start) s)) (sym long)
     ∙ laid-read store (octetAt a start) s room
+
+-- The words of an area in a store of octets are octets.
+pub stored-octets : (a : Area) (store : List ℕ) (start words : ℕ) → Octets store → Octets (storedAt a store start words)
+unfolding storedAt
+stored-octets a store start words h = between-octets _ _ store h

@@ -14,7 +14,7 @@ use Rattle.hexline.specs.Line.{Station}
 use Rattle.hexline.specs.Whole.{first}
 use Rattle.beside.specs.Beside.{isTime}
 use Rattle.beside.proofs.Agreeing.{agrees-length, agrees-octet}
-use Rattle.conforming.specs.Groups.{Line, groupsOf}
+use Rattle.conforming.specs.Groups.{Line, Filled, groupsOf}
 use Rattle.conforming.specs.Conforms.{framesFor, Gives, GiveAll, GroupsConform, Conforms, packetsIn}
 use Rattle.conforming.specs.Verdict.{Verdict, verdictOf}
 use Rattle.conforming.specs.Permitted.{Permitted, conforms, differing, refused-70, refused-71}
@@ -22,7 +22,7 @@ use Rattle.conforming.proofs.Giving.{gives-agrees}
 use Rattle.conforming.proofs.Verdicts.{verdict-permitted, permitted-verdict, conforms-conforming}
 use Rattle.demands.specs.Cases.{secondLine}
 use Rattle.demands.proofs.Computing.{all}
-use Rattle.misjudging.specs.StandIns.{Judge, Right, conforming, Filled, TakesSilence, ComparesItself, PassesShort, PassesUnread, StopsAtFirst, IgnoresMore, CallsNone, NeverConforms, StartsAgain}
+use Rattle.misjudging.specs.StandIns.{Judge, Right, conforming, TakesSilence, ComparesItself, PassesShort, PassesUnread, StopsAtFirst, IgnoresMore, CallsNone, NeverConforms, StartsAgain}
 
 -- ---- right judges
 
@@ -92,16 +92,12 @@ checked-due = refl
 abbrev short : Line
 short = textOf (0x00 ∷ [])
 
--- A line of some characters is not empty.
-filled : (line : Line) → 0 < length line → Filled line
-filled line some e = omega (arith, ap length e)
-
 -- ---- the three of the ledger
 
 -- The record of a refused TC without its (1,2) shows it.
 pub silence-fails : (judge : Judge) → TakesSilence judge → Right judge → ⊥
 unfolding all groupsOf GroupsConform GiveAll
-silence-fails judge silence right = said-conforms judge right (refused ∷ []) (silence lineProfile first refused (filled refused (omega arith)) refl refl) .0 .1 .0
+silence-fails judge silence right = said-conforms judge right (refused ∷ []) (silence lineProfile first refused tt refl refl) .0 .1 .0
 
 -- The record of a check and its (6,10) with the check value FFFF hex, where 1D0F hex is due, shows it.
 pub itself-fails : (judge : Judge) → ComparesItself judge → Right judge → ⊥
@@ -124,12 +120,12 @@ short-unsaid judge right h =
 -- The record of a refused TC and a TM line of one octet shows it.
 pub short-fails : (judge : Judge) → PassesShort judge → Right judge → ⊥
 unfolding all
-short-fails judge passes right = short-unsaid judge right (passes lineProfile first refused short (failure 0) refl failure-due (filled short (omega arith)) refl (omega arith))
+short-fails judge passes right = short-unsaid judge right (passes lineProfile first refused short (failure 0) refl failure-due tt refl (omega arith))
 
 -- The same record shows it: by its length field, which is missing and so counts as 0, that line would have 7 octets.
 pub unread-fails : (judge : Judge) → PassesUnread judge → Right judge → ⊥
 unfolding all
-unread-fails judge passes right = short-unsaid judge right (passes lineProfile first refused short (failure 0) refl failure-due (filled short (omega arith)) refl (λ e. omega arith))
+unread-fails judge passes right = short-unsaid judge right (passes lineProfile first refused short (failure 0) refl failure-due tt refl (λ e. omega arith))
 
 -- ---- others
 
@@ -143,14 +139,14 @@ pub stops-fails : (judge : Judge) → StopsAtFirst judge → Right judge → ⊥
 unfolding all groupsOf GroupsConform GiveAll
 stops-fails judge stops right =
     let same : judge lineProfile first (short ∷ [] ∷ refused ∷ []) ≡ judge lineProfile first (short ∷ []) =
-    stops lineProfile first short [] (refused ∷ []) (filled short (omega arith), tt) in
+    stops lineProfile first short [] (refused ∷ []) (tt, tt) in
     said-conforms judge right (short ∷ [] ∷ refused ∷ []) (ap conforming same ∙ short-said judge right) .0 .1 .1 .1 .0
 
 -- The record of a TC that is due no frame, and a TM line, shows it.
 pub more-fails : (judge : Judge) → IgnoresMore judge → Right judge → ⊥
 unfolding all groupsOf GroupsConform GiveAll
 more-fails judge more right =
-    let some : Filled short = filled short (omega arith) in
+    let some : Filled short = tt in
     said-conforms judge right (short ∷ short ∷ []) (more lineProfile first [] short short some (short-said judge right) some refl) .0 .1 .0
 
 -- The record without lines shows it.
@@ -170,7 +166,7 @@ again-fails judge again right =
     let group : List Line = refused ∷ line ∷ [] in
     let gives : Gives (failure 0) line = record { digits = refl; time = 0 ∷ 0 ∷ 0 ∷ 0 ∷ 0 ∷ 0 ∷ []; six = refl; octets = refl } in
     let once : conforming (judge lineProfile first group) ≡ true = conforms-said judge right group (refl, ((gives, tt), tt)) (omega arith) in
-    let twice = again lineProfile first group (filled refused (omega arith), (filled line (omega arith), tt)) once in
+    let twice = again lineProfile first group (tt, (tt, tt)) once in
     let c = said-conforms judge right (group ++ ([] ∷ group)) twice .0 in
     let z : _≡_ {A = ℕ} 0 1 = same-octet (failure 1) line (omega arith) (c .1 .1 .1 .0 .0) 3 refl in
     omega arith

@@ -13,7 +13,7 @@ use Rattle.packetline.specs.Packet.{isPacket}
 use Rattle.map.specs.declared.Profile.{Profile}
 use Rattle.terminal.specs.Outcome.{verdictOn}
 use Rattle.hexline.specs.Line.{Station, packetInput}
-use Rattle.conforming.specs.Groups.{Line}
+use Rattle.conforming.specs.Groups.{Line, Filled}
 use Rattle.conforming.specs.Conforms.{framesFor}
 use Rattle.conforming.specs.Verdict.{Verdict, Conforming, Differs, Refused70, Refused71}
 use Rattle.conforming.specs.Permitted.{Permitted}
@@ -32,10 +32,6 @@ conforming (Conforming packets frames) = true
 conforming (Differs number tc due line) = false
 conforming (Refused70 number line) = false
 conforming Refused71 = false
-
--- A line that is not empty.
-abbrev pub Filled : Line → Type 0
-Filled line = line ≡ [] → ⊥
 
 -- ---- the three of the ledger
 

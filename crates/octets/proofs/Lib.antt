@@ -1,3 +1,4 @@
 pub mod Between
 pub mod Laid
 pub mod Words
+pub mod Octets

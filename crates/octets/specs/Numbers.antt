@@ -1,11 +1,15 @@
 -- Document 01, "All numbers are big-endian": numbers of 16 and 32 bits in octets.
 use mathlib.Core.List.{List, [], _∷_}
-use Prim.Native.Nat.{ℕ, _+_, _*_, _/_, _%_}
+use Prim.Native.Nat.{ℕ, _+_, _*_, _/_, _%_, _<_}
 use lib.ListN.{getD}
 
 -- The octet at a place of a list; past the end it counts as 0.
 abbrev pub octet : List ℕ → ℕ → ℕ
 octet s at = getD s at 0
+
+-- A list of octets: each is below 256.
+abbrev pub Octets : List ℕ → Type 0
+Octets s = (k : ℕ) → octet s k < 256
 
 -- The number of 16 bits that stands at a place.
 abbrev pub word16 : List ℕ → ℕ → ℕ

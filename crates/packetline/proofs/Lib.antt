@@ -1,2 +1,3 @@
 pub mod Packets
 pub mod Cutting
+pub mod Lines

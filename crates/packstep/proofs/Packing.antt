@@ -14,9 +14,10 @@ use Rattle.hexline.specs.Whole.{answerRoom}
 use Rattle.packline.specs.declared.Halt.{Halt}
 use Rattle.packline.specs.Record.{haltOf, haltLong, refusedAt}
 use Rattle.packline.proofs.Records.{record-most, refused-most}
+use Rattle.grouping.specs.Group.{nextNumber}
 use Rattle.desk.specs.declared.Desk.{Desk}
 use Rattle.desk.specs.declared.Done.{Done}
-use Rattle.desk.specs.Place.{Place, profileAt, stationAt, nextNumber, counted, halting, isHalted, atDesk}
+use Rattle.desk.specs.Place.{Place, profileAt, stationAt, counted, halting, isHalted, atDesk, counting}
 use Rattle.packstep.specs.Step.{isEmpty, recordSays, recordBecomes, packSays, packBecomes, packLongSays, packLongDesk}
 use Rattle.desk.specs.Did.{Did}
 
@@ -78,6 +79,17 @@ pub long-refused : (d e : Desk) {at : ℕ} {text text′ : List ℕ} (r : Done) 
 unfolding packLongSays packLongDesk
 long-refused d e {at = at} {text = text} {text′ = text′} r h f s g =
     rw h (subst (λ (x : Desk). Says (refusedAt (x .number)) at text (r .at) text′) f s, g ∙ ap (λ (x : Desk). halting x haltLong) f)
+
+-- What is said to a line, and what goes on from it, where no line is refused: an empty line is passed over, and a packet line is given its record.
+module _ (m : Place) (going : isHalted (m .desk) ≡ false) where
+  pub pack-passes : (packSays m [] ≡ []) × (packBecomes m [] ≡ counting m)
+  unfolding packSays packBecomes
+  pack-passes = rw going (refl, refl)
+
+  pub pack-records : (c : ℕ) (line : List ℕ) → isPacket (c ∷ line) ≡ true
+      → (packSays m (c ∷ line) ≡ recordSays m (c ∷ line)) × (packBecomes m (c ∷ line) ≡ recordBecomes (counting m) (c ∷ line))
+  unfolding packSays packBecomes
+  pack-records c line t = rw (going, t) (refl, refl)
 
 -- No answer has more than 16,384 characters.
 under : (n : ℕ) → length (refusedAt n) ≤ answerRoom

@@ -4,8 +4,9 @@ use mathlib.Core.List.{List, [], _∷_}
 use Prim.Native.Nat.{ℕ}
 use Rattle.packetline.specs.Packet.{isPacket}
 use Rattle.packline.specs.Record.{recordOf, recordAfter, haltLong, haltOf, refusedAt}
+use Rattle.grouping.specs.Group.{nextNumber}
 use Rattle.desk.specs.declared.Desk.{Desk}
-use Rattle.desk.specs.Place.{Place, profileAt, stationAt, nextNumber, counted, halting, isHalted, atDesk, counting, atStation}
+use Rattle.desk.specs.Place.{Place, profileAt, stationAt, counted, halting, isHalted, atDesk, counting, atStation}
 
 -- `pack`: an empty line is passed over; a packet line is given its record; any other stops the program.
 abbrev pub isEmpty : List ℕ → Bool

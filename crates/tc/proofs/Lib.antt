@@ -1,3 +1,4 @@
 pub mod Judged
 pub mod Laying
 pub mod RoundTrip
+pub mod Details

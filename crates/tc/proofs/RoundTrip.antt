@@ -10,7 +10,7 @@ use lib.ListN.{length, take, drop, length-append, take-append-drop, drop-of-leng
 use lib.Dec.{eqb, leb}
 use lib.Seq.{take-add, take-at}
 use borrow.Author.Tests.{le-leb, eq-eqb, leb-true, eqb-true}
-use Rattle.octets.specs.Numbers.{octet, word16, octets16}
+use Rattle.octets.specs.Numbers.{Octets, octet, word16, octets16}
 use Rattle.fields.specs.Fields.{packetId, idOf, sequence, controlOf, header, headerOf, apidOf}
 use Rattle.octets.proofs.Between.{between-eq, between-length}
 use Rattle.octets.proofs.Words.{word16-behind, octets16-of-word16, run, run-drop, run-take}
@@ -103,10 +103,6 @@ record Clean (p : List ℕ) : Type 0 where
   flag : packetId (word16 p 0) .header ≡ 1
   flags : sequence (word16 p 2) .flags ≡ 3
   pus : header (octet p 6) .version ≡ 0
-
--- Each is an octet.
-abbrev pub Octets : List ℕ → Type 0
-Octets p = (k : ℕ) → octet p k < 256
 
 clean : (p : List ℕ) → judged p ≡ Accepted → Clean p
 unfolding readerRows lengthRight controlRight headerFault firstFault AllHold judged

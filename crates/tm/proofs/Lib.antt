@@ -1,2 +1,3 @@
 pub mod Frame
 pub mod Frames
+pub mod Octets

@@ -1,2 +1,3 @@
 pub mod Items
 pub mod States
+pub mod Octets

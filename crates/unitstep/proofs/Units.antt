@@ -5,10 +5,13 @@ use mathlib.Core.Bool.{true, false}
 use mathlib.Core.List.{List}
 use Prim.Native.Nat.{ℕ}
 use borrow.Author.Tests.{ne-eqb}
+use Rattle.laws.proofs.Tests.{by-test}
+use Rattle.octets.specs.Numbers.{Octets}
 use Rattle.stating.specs.Faults.{fine, lineLong}
 use Rattle.unit.specs.declared.Draft.{Draft}
 use Rattle.unit.specs.declared.Stated.{Stated}
 use Rattle.unit.specs.Unit.{lineStated, linePut, endFault}
+use Rattle.unit.proofs.Octets.{put-octets}
 use Rattle.packline.specs.declared.Halt.{Halt}
 use Rattle.desk.specs.declared.Desk.{Desk}
 use Rattle.desk.specs.Place.{withDraft, counted, halting, isHalted}
@@ -52,3 +55,8 @@ module _ (d : Desk) where
   unfolding unitEnd
   end-stops f b r h g e n k w t =
       rw (g, ne-eqb (endFault (d .draft)) fine (λ z. n (e ∙ z))) (t ∙ ap₂ (λ (x : Desk) (y : Halt). halting x y) k (w ∙ ap faulty e))
+
+-- A line leaves a store of octets one.
+pub unit-octets : (d : Desk) (store line : List ℕ) → Octets store → Octets (unitStore d store line)
+unfolding unitStore
+unit-octets d store line h = by-test (isHalted d) (λ t. rw t h) (λ e. rw e (put-octets (d .draft) store line h))

@@ -40,13 +40,20 @@ pub fn run(input: &mut dyn Read, output: &mut dyn Write) -> io::Result<()> {
     })
 }
 
-/// One frame a line; a frame's length field says where the next begins.
+/// One frame a line.
 pub fn write_frames(mut frames: &[u8], text: &mut Vec<u8>) {
-    while let [_, _, _, _, upper, lower, ..] = frames {
-        let length = usize::from(u16::from_be_bytes([*upper, *lower])) + 7;
-        let (frame, rest) = frames.split_at_checked(length).unwrap_or((frames, &[]));
+    while let Some((frame, rest)) = split_frame(frames) {
         hex::write(frame, text);
         text.push(b'\n');
         frames = rest;
     }
+}
+
+/// The first frame and those behind it; a frame's length field says where the next begins.
+pub fn split_frame(frames: &[u8]) -> Option<(&[u8], &[u8])> {
+    let [_, _, _, _, upper, lower, ..] = frames else {
+        return None;
+    };
+    let length = usize::from(u16::from_be_bytes([*upper, *lower])) + 7;
+    Some(frames.split_at_checked(length).unwrap_or((frames, &[])))
 }

@@ -13,7 +13,7 @@ use crate::unit::{self, Unit};
 use crate::unit_fault::BadLine;
 
 /// A packet line has at most this many characters.
-const LONGEST_LINE: usize = 4_096;
+pub(crate) const LONGEST_LINE: usize = 4_096;
 /// So much text is sent before all that was read is answered.
 const WRITE_OCTETS: usize = 65_536;
 
@@ -80,7 +80,7 @@ fn record(mut unit: Unit, packets: &mut dyn Read, output: &mut dyn Write) -> io:
 }
 
 /// The octets of a packet line.
-fn read_packet(line: Line) -> Result<Vec<u8>, Why> {
+pub(crate) fn read_packet(line: Line) -> Result<Vec<u8>, Why> {
     let Line::Whole(digits) = line else {
         return Err(Why::TooLong);
     };

@@ -2,7 +2,7 @@
 //! standard output, and a quiet end when the output is closed.
 
 use std::env;
-use std::ffi::OsStr;
+use std::ffi::{OsStr, OsString};
 use std::fs::File;
 use std::io::{self, ErrorKind, Read, Write};
 use std::path::PathBuf;
@@ -30,6 +30,24 @@ impl Input {
             Ok((true, _)) => Err(format!("{name}: it is a directory")),
             Err(error) => Err(format!("{name}: {error}")),
         }
+    }
+
+    /// A unit file and a file for it, both opened before anything is read; the second is standard input where it is
+    /// left out.
+    pub fn unit_and(arguments: &[OsString], second: &str, usage: &str) -> Result<(Input, Input), String> {
+        if let Some(option) = arguments.iter().find(|argument| is_option(argument)) {
+            return Err(format!("unknown option {}; {usage}", option.to_string_lossy()));
+        }
+        let standard = OsString::from(STANDARD_INPUT);
+        let (unit, file) = match arguments {
+            [unit] => (unit, &standard),
+            [unit, file] => (unit, file),
+            _ => return Err(usage.into()),
+        };
+        if *unit == standard && *file == standard {
+            return Err(format!("standard input cannot be both the unit and the {second}; {usage}"));
+        }
+        Ok((Input::open(unit)?, Input::open(file)?))
     }
 }
 
@@ -95,7 +113,8 @@ pub fn seed_count_and_folder() -> Option<(u64, u64, PathBuf)> {
     }
 }
 
-fn number(text: &str) -> Option<u64> {
+/// A number, decimal or 0x and hexadecimal.
+pub fn number(text: &str) -> Option<u64> {
     match text.strip_prefix("0x") {
         Some(digits) => u64::from_str_radix(digits, 16).ok(),
         None => text.parse().ok(),

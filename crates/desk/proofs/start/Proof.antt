@@ -7,14 +7,14 @@ use Rattle.desk.proofs.start.Tie as tie
 none-requires : tie.Need-none-requires
 none-requires c κs = search needs
 
-no-group-requires : tie.Need-no-group-requires
-no-group-requires c κs = search needs
+start-requires : tie.Need-start-requires
+start-requires c κs = search needs
 
 goes-on-requires : tie.Need-goes-on-requires
 goes-on-requires c κs = search needs
 
 returns : tie.Need-returns
-returns c = λ i. record { draft = c .before .before .before .args .draft; state = record { counts = c .before .before .none .ensures i }; number = 0; group = c .before .no-group .ensures i; halt = c .goes-on .ensures i }
+returns c = λ i. record { draft = c .before .before .before .args .draft; state = record { counts = c .before .before .none .ensures i }; number = 0; group = c .before .start .ensures i; halt = c .goes-on .ensures i }
 
 pub start-spec : {M : Type 1} → statement M
-start-spec = tie.close (tie.spec none-requires no-group-requires goes-on-requires returns)
+start-spec = tie.close (tie.spec none-requires start-requires goes-on-requires returns)

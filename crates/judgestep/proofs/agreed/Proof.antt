@@ -3,7 +3,7 @@
 use Rattle.judgestep.proofs.Judging.{agreed-empty, agreed-frame}
 use mathlib.Core.Path.{ap, _∙_}
 use denote.Ref.{now}
-use Rattle.desk.specs.declared.Group.{Group}
+use Rattle.grouping.specs.declared.Group.{Group}
 use Rattle.desk.specs.Place.{withGroup}
 use borrow.Author.Needs.{needs}
 use Rattle.judgestep.proofs.agreed.Statement.{statement}

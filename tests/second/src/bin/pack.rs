@@ -13,7 +13,7 @@ const USAGE: &str = "usage: pack UNIT [PACKETS]";
 
 fn main() -> ExitCode {
     let arguments: Vec<OsString> = env::args_os().skip(1).collect();
-    let (mut unit, mut packets) = match open(&arguments) {
+    let (mut unit, mut packets) = match Input::unit_and(&arguments, "packets", USAGE) {
         Ok(files) => files,
         Err(message) => return program::fail(&format!("pack: {message}")),
     };
@@ -22,23 +22,6 @@ fn main() -> ExitCode {
         Ok(end) => finish(&end, &mut output),
         Err(error) => program::finish(Err(error)),
     }
-}
-
-/// Both files, opened before anything is read.
-fn open(arguments: &[OsString]) -> Result<(Input, Input), String> {
-    if let Some(option) = arguments.iter().find(|argument| program::is_option(argument)) {
-        return Err(format!("unknown option {}; {USAGE}", option.to_string_lossy()));
-    }
-    let standard = OsString::from(program::STANDARD_INPUT);
-    let (unit, packets) = match arguments {
-        [unit] => (unit, &standard),
-        [unit, packets] => (unit, packets),
-        _ => return Err(USAGE.into()),
-    };
-    if *unit == standard && *packets == standard {
-        return Err(format!("standard input cannot be both the unit and the packets; {USAGE}"));
-    }
-    Ok((Input::open(unit)?, Input::open(packets)?))
 }
 
 /// Says what comes last. A verdict keeps its status where nobody reads any more.

@@ -6,13 +6,13 @@ use std::io;
 use std::path::Path;
 use std::process::ExitCode;
 
-use second::hex;
 use second::map::Profile;
 use second::program;
 use second::random::Random;
 use second::sample;
 use second::sample_bad_unit::{self, AIMS};
-use second::sample_unit::{self, mix_case, Stated, WAYS};
+use second::sample_line::{self, Bad, BAD};
+use second::sample_unit::{self, Stated, WAYS};
 
 /// What a file is to be.
 #[derive(Clone, Copy)]
@@ -47,16 +47,6 @@ const TURNS: [Kind; 20] = [
     Kind::Unsound,
 ];
 
-/// A line that is no packet.
-#[derive(Clone, Copy)]
-enum BadPacket {
-    TooLong,
-    Character,
-    OddDigits,
-}
-
-/// The bad packet lines in turn.
-const BAD_PACKETS: [BadPacket; 3] = [BadPacket::TooLong, BadPacket::Character, BadPacket::OddDigits];
 /// One sound file in so many has a bad packet line.
 const SOUND_FOR_ONE_BAD_PACKET: usize = 4;
 /// One sound file in so many has no packet.
@@ -100,7 +90,7 @@ impl Generator {
                 self.sound += 1;
                 if self.sound.is_multiple_of(SOUND_FOR_ONE_BAD_PACKET) {
                     let turn = self.sound / SOUND_FOR_ONE_BAD_PACKET;
-                    bad_packet = Some(BAD_PACKETS[turn % BAD_PACKETS.len()]);
+                    bad_packet = Some(BAD[turn % BAD.len()]);
                 } else {
                     no_packet = self.sound % SOUND_FOR_ONE_WITHOUT_PACKETS == 1;
                 }
@@ -150,12 +140,12 @@ fn text(random: &mut Random, stated: &Stated) -> Vec<u8> {
 
 /// 20 to 60 lines of packets for the profile, empty lines among them, and a bad line in the middle if there is to be
 /// one.
-fn packets(random: &mut Random, profile: &Profile, bad: Option<BadPacket>) -> Vec<u8> {
+fn packets(random: &mut Random, profile: &Profile, bad: Option<Bad>) -> Vec<u8> {
     let count = random.between(20, 60);
     let mut lines: Vec<Vec<u8>> = (0..count).map(|_| line(random, profile)).collect();
-    if let Some(kind) = bad {
+    if let Some(bad) = bad {
         let place = random.between(count / 4, count * 3 / 4) as usize;
-        lines.insert(place, bad_line(random, profile, kind));
+        lines.insert(place, bad_line(random, profile, bad));
     }
     let mut text = lines.join(&b'\n');
     if !random.once_in(4) {
@@ -171,35 +161,13 @@ fn line(random: &mut Random, profile: &Profile) -> Vec<u8> {
         3 => sample::longest_dump(random, profile),
         _ => sample::packet(random, profile),
     };
-    packet_line(random, &packet)
-}
-
-/// The digits of a packet in either case.
-fn packet_line(random: &mut Random, packet: &[u8]) -> Vec<u8> {
-    let mut digits = Vec::new();
-    hex::write(packet, &mut digits);
-    mix_case(random, &mut digits);
-    digits
+    sample_line::digits(random, &packet)
 }
 
 /// A line that is no packet in that way.
-fn bad_line(random: &mut Random, profile: &Profile, kind: BadPacket) -> Vec<u8> {
+fn bad_line(random: &mut Random, profile: &Profile, bad: Bad) -> Vec<u8> {
     let packet = sample::longest_dump(random, profile);
-    let mut line = packet_line(random, &packet);
-    match kind {
-        BadPacket::TooLong => {
-            let length = random.pick(&[4_097, 4_097, 4_098, 5_000, 70_000]);
-            line.resize(length, random.pick(b"00F\r"));
-        }
-        BadPacket::Character => {
-            let place = random.below(line.len() as u64 + 1) as usize;
-            let place = random.pick(&[0, place, line.len()]);
-            line.insert(place, random.pick(b"\r\r\0 \tgGxX/:@`\x7F\x80\xFF"));
-            if random.once_in(2) {
-                line.push(random.pick(b"0\r"));
-            }
-        }
-        BadPacket::OddDigits => drop(line.pop()),
-    }
+    let mut line = sample_line::digits(random, &packet);
+    sample_line::spoil(random, &mut line, bad);
     line
 }

@@ -3,6 +3,7 @@
 
 #![allow(dead_code)]
 
+pub mod judging;
 pub mod packing;
 
 use std::env;

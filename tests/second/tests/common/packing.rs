@@ -64,7 +64,7 @@ pub fn command() -> Command {
     super::command("PACK_COMMAND").unwrap_or_else(|| Command::new(env!("CARGO_BIN_EXE_pack")))
 }
 
-/// What a run of `pack` gave.
+/// What a run of a program gave.
 #[derive(Debug)]
 pub struct Packed {
     pub out: Vec<u8>,
@@ -72,7 +72,7 @@ pub struct Packed {
     pub status: Option<i32>,
 }
 
-/// A run of `pack` that is under way; its input is open.
+/// A run that is under way; its input is open.
 pub struct Running {
     child: Child,
     out: JoinHandle<Vec<u8>>,
@@ -81,13 +81,18 @@ pub struct Running {
 
 /// Starts `pack` with these arguments.
 pub fn start(arguments: &[&OsStr]) -> Running {
-    let mut child = command()
+    start_command(command(), arguments)
+}
+
+/// Starts a command with these arguments behind its own.
+pub fn start_command(mut command: Command, arguments: &[&OsStr]) -> Running {
+    let mut child = command
         .args(arguments)
         .stdin(Stdio::piped())
         .stdout(Stdio::piped())
         .stderr(Stdio::piped())
         .spawn()
-        .expect("pack starts");
+        .expect("the program starts");
     let out = all_of(child.stdout.take().expect("its output"));
     let said = all_of(child.stderr.take().expect("its standard error"));
     Running { child, out, said }
@@ -192,7 +197,7 @@ impl Packed {
 
     /// Standard output, standard error and the status are exactly these.
     #[track_caller]
-    fn is(&self, out: &str, said: &str, status: i32) {
+    pub fn is(&self, out: &str, said: &str, status: i32) {
         assert_eq!(String::from_utf8_lossy(&self.out), out);
         assert_eq!(String::from_utf8_lossy(&self.said), said);
         assert_eq!(self.status, Some(status));

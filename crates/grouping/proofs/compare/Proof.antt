@@ -1,4 +1,4 @@
--- `judgestep::compare` meets its contract.
+-- `grouping::compare` meets its contract.
 -- Assumes nothing.
 use mathlib.Core.Path.{ap, _∙_}
 use mathlib.Core.Bool.{true}
@@ -7,8 +7,8 @@ use Prim.Native.Nat.{ℕ, _+_, min}
 use lib.ListN.{length, drop}
 use Rattle.tm.specs.Frame.{frameSize}
 use borrow.Author.Needs.{needs}
-use Rattle.judgestep.proofs.compare.Statement.{statement}
-use Rattle.judgestep.proofs.compare.Tie as tie
+use Rattle.grouping.proofs.compare.Statement.{statement}
+use Rattle.grouping.proofs.compare.Tie as tie
 
 front-requires : tie.Need-front-requires
 front-requires c κs = search needs

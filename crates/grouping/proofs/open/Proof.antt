@@ -1,9 +1,9 @@
--- `judgestep::open` meets its contract.
+-- `grouping::open` meets its contract.
 -- Assumes nothing.
 use mathlib.Core.Bool.{true}
 use borrow.Author.Needs.{needs}
-use Rattle.judgestep.proofs.open.Statement.{statement}
-use Rattle.judgestep.proofs.open.Tie as tie
+use Rattle.grouping.proofs.open.Statement.{statement}
+use Rattle.grouping.proofs.open.Tie as tie
 
 wrapping-add-u64-requires : tie.Need-wrapping-add-u64-requires
 wrapping-add-u64-requires c κs = search needs

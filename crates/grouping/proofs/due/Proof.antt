@@ -1,16 +1,16 @@
--- `judgestep::due` meets its contract.
+-- `grouping::due` meets its contract.
 -- Assumes nothing.
-use Rattle.judgestep.proofs.Judging.{left-all, due-whole}
+use Rattle.grouping.proofs.Left.{left-all, due-whole}
 use mathlib.Core.Path.{ap, _∙_}
 use denote.Ref.{now}
 use mathlib.Core.List.{List}
 use Prim.Native.Nat.{ℕ}
 use lib.ListN.{take}
 use Rattle.tm.specs.Frame.{frameSize}
-use Rattle.judgestep.specs.Step.{frameRoom}
+use Rattle.grouping.specs.Group.{frameRoom}
 use borrow.Author.Needs.{needs}
-use Rattle.judgestep.proofs.due.Statement.{statement}
-use Rattle.judgestep.proofs.due.Tie as tie
+use Rattle.grouping.proofs.due.Statement.{statement}
+use Rattle.grouping.proofs.due.Tie as tie
 
 front-requires : tie.Need-front-requires
 front-requires c κs = search needs

@@ -1,0 +1,53 @@
+-- The text of octets is digits, and reads back as those octets.
+-- Assumes nothing.
+use mathlib.Core.Path.{_≡_, refl, sym, ap₂, _∙_}
+use mathlib.Core.Bool.{true, false}
+use mathlib.Core.List.{List, [], _∷_}
+use Prim.Native.Nat.{ℕ, zero, suc, _+_, _*_, _-_, _/_, _%_, _<_}
+use native.Mathlib.Omega.{arith}
+use borrow.Author.Tests.{lt-ltb, le-ltb, le-leb, lt-leb}
+use Rattle.laws.proofs.Order.{by-order}
+use Rattle.octets.specs.Numbers.{Octets}
+use Rattle.characters.specs.Digits.{within, valueOf, isDigit, digitOf, textOf, allDigits, octetsIn}
+use Rattle.characters.proofs.Digits.{value-number, value-upper}
+
+-- The value of a digit that stands for a number is the number's low four bits.
+digit-value : (x : ℕ) → valueOf (digitOf x) ≡ x % 16
+unfolding digitOf
+digit-value x =
+    by-order 10 (x % 16)
+    (λ h.
+    let c : ℕ = 0x41 + (x % 16 - 10) in
+    let low : within 0x30 0x39 c ≡ false = rw (le-leb 0x30 c (omega arith), lt-leb c 0x39 (omega arith)) refl in
+    let high : within 0x41 0x46 c ≡ true = rw (le-leb 0x41 c (omega arith), le-leb c 0x46 (omega arith)) refl in
+    rw (le-ltb (x % 16) 10 h) (sym (value-upper c low high) ∙ omega arith))
+    (λ h.
+    let c : ℕ = 0x30 + x % 16 in
+    let low : within 0x30 0x39 c ≡ true = rw (le-leb 0x30 c (omega arith), le-leb c 0x39 (omega arith)) refl in
+    rw (lt-ltb (x % 16) 10 h) (sym (value-number c low) ∙ omega arith))
+
+is-digit : (x : ℕ) → isDigit (digitOf x) ≡ true
+is-digit x = lt-ltb (valueOf (digitOf x)) 16 (omega (arith, digit-value x))
+
+-- The text of octets is digits.
+pub text-digits : (s : List ℕ) → allDigits (textOf s) ≡ true
+unfolding allDigits textOf
+text-digits [] = refl
+text-digits (x ∷ s) = rw (is-digit (x / 16), is-digit x) (text-digits s)
+
+-- It reads back as those octets.
+pub text-back : (s : List ℕ) → Octets s → octetsIn (textOf s) ≡ s
+unfolding octetsIn textOf
+text-back [] h = refl
+text-back (x ∷ s) h =
+    let small : x < 256 = h 0 in
+    let here : valueOf (digitOf (x / 16)) % 16 * 16 + valueOf (digitOf x) % 16 ≡ x = omega (arith, digit-value (x / 16), digit-value x) in
+    ap₂ (λ (y : ℕ) (r : List ℕ). y ∷ r) here (text-back s (λ k. h (suc k)))
+
+-- The octets of a text are octets.
+pub in-octets : (s : List ℕ) → Octets (octetsIn s)
+unfolding octetsIn
+in-octets [] k = omega arith
+in-octets (h ∷ []) k = omega arith
+in-octets (h ∷ l ∷ s) zero = omega arith
+in-octets (h ∷ l ∷ s) (suc k) = in-octets s k

@@ -1,0 +1,4 @@
+pub mod Reports
+pub mod Sources
+pub mod Frames
+pub mod Storing
