@@ -1,7 +1,6 @@
 // `judge`: for a unit and a record of it, whether the record conforms, or the first line that differs.
 use console::files::Files;
 use desk::Desk;
-use judgestep::DIFFERS;
 use opening::FRAMES_ROOM;
 use opening::Frames;
 use opening::INPUT_ROOM;
@@ -9,29 +8,16 @@ use opening::Input;
 use opening::STORE_ROOM;
 use opening::TEXT_ROOM;
 use opening::Text;
-use packline::GOES_ON;
 use tasks::Task;
 
-// Marks the verdict for whoever started the program: the record conforms, differs, or is refused.
-fn mark(kind: u8) {
-    if kind == DIFFERS {
-        console::differ();
-        return;
-    }
-    if kind != GOES_ON {
-        console::tell(b"");
-    }
-}
-
-// Says what is due at the end of the input, and marks the verdict.
+// Says what is due at the end of the input, where the judge has not stopped before it.
 fn conclude(desk: Desk, store: &mut [u8], frames: &mut Frames, text: &mut Text) {
-    let done = judgestep::judge_end(desk, store, frames, text, 0);
-    if !console::write(b"judge", lines::front(text, done.at)) {
+    if desk::is_halted(desk) {
         return;
     }
-    let after = done.desk;
-    let halt = after.halt;
-    mark(halt.kind);
+    let done = judgestep::judge_end(desk, store, frames, text, 0);
+    running::mark(Task::Judge, done.desk);
+    console::write(b"judge", lines::front(text, done.at));
 }
 
 // Judges a record under a sound unit.

@@ -32,30 +32,37 @@ fn write(name: &[u8], text: &Text, count: usize) {
     console::write(name, lines::front(text, count));
 }
 
-// Tells the first bad line of the unit file.
+// Tells the first bad line of the unit file. What is told is marked before it is written, so that it stands even where nobody reads it.
 fn tell_unit(name: &[u8], desk: Desk, text: &mut Text) {
     let halt = desk.halt;
     let at = telling::unit_line(desk.number, halt.kind, text, 0);
+    console::tell(b"");
     write(name, text, at);
-    console::tell(b"");
 }
 
-// Tells which clause fails: behind the verdict, or aside from it.
-fn tell_clause(name: &[u8], clause: Clause, aside: bool, text: &mut Text) {
+// Tells that the unit is not sound, and aside, on standard error, which clause fails.
+fn tell_aside(name: &[u8], clause: Clause, text: &mut Text) {
     let words = clausewords::clause_line(clause, text, 0);
-    if aside {
-        console::tell(lines::front(text, words));
-        return;
-    }
-    write(name, text, words);
-    console::tell(b"");
-}
-
-// Tells that the unit is not sound, and which clause fails.
-fn tell_unsound(name: &[u8], clause: Clause, aside: bool, text: &mut Text) {
+    console::tell(lines::front(text, words));
     let at = telling::unsound_line(text, 0);
     write(name, text, at);
-    tell_clause(name, clause, aside, text);
+}
+
+// Tells that the unit is not sound, and behind that which clause fails.
+fn tell_unsound(name: &[u8], clause: Clause, text: &mut Text) {
+    let at = telling::unsound_line(text, 0);
+    let end = clausewords::clause_line(clause, text, at);
+    console::tell(b"");
+    write(name, text, end);
+}
+
+// Tells it in one of the two ways.
+fn tell_clause(name: &[u8], clause: Clause, aside: bool, text: &mut Text) {
+    if aside {
+        tell_aside(name, clause, text);
+        return;
+    }
+    tell_unsound(name, clause, text);
 }
 
 // A unit that was read: whether it is sound, which is told where it is not.
@@ -67,7 +74,7 @@ fn ask(name: &[u8], desk: Desk, aside: bool, text: &mut Text) -> Unit {
     let draft = desk.draft;
     let clause = clauses::clause_of(draft.profile, draft.stored);
     if !clauses::holds(clause) {
-        tell_unsound(name, clause, aside, text);
+        tell_clause(name, clause, aside, text);
         return Unit { sound: false, desk };
     }
     Unit { sound: true, desk }

@@ -2,6 +2,8 @@
 use console::Got;
 use desk::Desk;
 use feeding::Progress;
+use judgestep::DIFFERS;
+use packline::GOES_ON;
 use tasks::Task;
 
 // Whether something failed, which was said, and the desk behind the last line.
@@ -35,6 +37,25 @@ fn ends(failed: bool, p: Progress) -> Next {
     }
 }
 
+// Marks why a judge has stopped: the record differs, or is refused.
+fn mark_stopped(kind: u8) {
+    if kind == DIFFERS {
+        console::differ();
+        return;
+    }
+    if kind != GOES_ON {
+        console::tell(b"");
+    }
+}
+
+// Marks a judge's verdict for whoever started the program. It is marked before it is written, so that it stands even where nobody reads it.
+pub fn mark(task: Task, desk: Desk) {
+    let halt = desk.halt;
+    if let Task::Judge = task {
+        mark_stopped(halt.kind);
+    }
+}
+
 // Answers what is left at the end of the input.
 fn end(
     name: &[u8],
@@ -46,6 +67,7 @@ fn end(
     text: &mut [u8],
 ) -> Next {
     let last = feeding::finish(task, p, input, store, frames, text);
+    mark(task, last.desk);
     let written = console::write(name, lines::front(text, last.at));
     let lines = p.lines;
     let desk = last.desk;
@@ -87,6 +109,7 @@ fn settle(
     text: &mut [u8],
 ) -> Next {
     let l = fed.lines;
+    mark(task, fed.desk);
     if !console::write(name, lines::front(text, l.at)) {
         return ends(true, fed);
     }
