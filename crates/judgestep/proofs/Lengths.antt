@@ -1,14 +1,12 @@
 -- No answer of the judge has more than 16,384 characters.
 -- Assumes nothing.
 use mathlib.Core.Path.{_≡_}
-use mathlib.Core.Bool.{true, false}
-use mathlib.Core.List.{List, [], _∷_, _++_}
-use Prim.Native.Nat.{ℕ, _+_, _≤_}
+use mathlib.Core.List.{List, [], _∷_}
+use Prim.Native.Nat.{ℕ, _≤_}
 use native.Mathlib.Omega.{arith}
-use lib.ListN.{length, take, length-append, length-take}
+use lib.ListN.{length, length-append}
 use Rattle.laws.proofs.Tests.{by-test}
 use Rattle.characters.specs.Digits.{octetsIn}
-use Rattle.tm.specs.Frame.{frameSize}
 use Rattle.packetline.specs.Packet.{isPacket}
 use Rattle.packetline.proofs.Packets.{packet-facts}
 use Rattle.hexline.specs.Whole.{answerRoom}
@@ -23,8 +21,9 @@ use Rattle.grouping.specs.Group.{nextNumber, dueAt}
 use Rattle.grouping.proofs.Left.{due-room}
 use Rattle.desk.specs.declared.Desk.{Desk}
 use Rattle.desk.specs.Place.{Place, counted, isHalted, counting}
-use Rattle.judgestep.specs.Step.{badSays, outsideSays, insideSays, judgeSays, judgeLongSays}
 use Rattle.judgestep.proofs.Judging.{stopped, cond-inside, cond-outside}
+use Rattle.judgeline.specs.Step.{badSays, outsideSays, insideSays}
+use Rattle.judgestep.specs.Step.{judgeSays, judgeLongSays}
 
 bad-most : (n : ℕ) (h : Halt) → length (badSays n h) ≤ answerRoom
 bad-most n h = omega (arith, length-append (refusedAt n) (haltLine h), refused-most n, halt-line-most h)

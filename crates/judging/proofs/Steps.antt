@@ -36,8 +36,12 @@ use Rattle.grouping.specs.Group.{nextNumber, frameRoom, leftAt, dueAt, compared
 use Rattle.grouping.proofs.Left.{due-first, due-none}
 use Rattle.desk.specs.declared.Desk.{Desk}
 use Rattle.desk.specs.Place.{Place, profileAt, stationAt, withGroup, counted, halting, isHalted, atDesk, counting}
-use Rattle.judgestep.specs.Step.{haltDiffers, servedAt, agreedDesk, conformingText, closingSays, judgeSays, judgeBecomes}
-use Rattle.judgestep.proofs.Judging.{cond-inside, cond-outside, outside-empty, outside-packet, outside-bad, inside-bad, inside-agrees, inside-differs, agreed-frame, agreed-empty, long-going, closing-some, closing-none, stopped, long-stopped}
+use Rattle.judgeline.specs.Step.{haltDiffers, servedAt, agreedDesk}
+use Rattle.concluding.specs.Closing.{conformingText, closingSays}
+use Rattle.judgestep.specs.Step.{judgeSays, judgeBecomes}
+use Rattle.judgeline.proofs.Lines.{outside-empty, outside-packet, outside-bad, inside-bad, inside-agrees, inside-differs}
+use Rattle.concluding.proofs.Closing.{closing-some, closing-none}
+use Rattle.judgestep.proofs.Judging.{cond-inside, cond-outside, long-going, stopped, long-stopped}
 use Rattle.tasks.specs.declared.Task.the-variants.{Judge}
 use Rattle.tasks.specs.Tasks.{taskProgram}
 use Rattle.judging.specs.Output.{told, reasonOf, verdictText}

@@ -25,8 +25,9 @@ use Rattle.conforming.proofs.Giving.{empty-packet}
 use Rattle.conforming.proofs.LineByLine as reading
 use Rattle.desk.specs.declared.Desk.{Desk}
 use Rattle.desk.specs.Place.{Place, profileAt, stationAt, isHalted, deskFor}
-use Rattle.judgestep.specs.Step.{judgeBecomes, closingSays, endSays}
-use Rattle.judgestep.proofs.Judging.{closing-halted}
+use Rattle.concluding.specs.Closing.{closingSays}
+use Rattle.judgestep.specs.Step.{judgeBecomes, endSays}
+use Rattle.concluding.proofs.Closing.{closing-halted}
 use Rattle.tasks.specs.declared.Task.the-variants.{Judge}
 use Rattle.tasks.specs.Tasks.{taskProgram}
 use Rattle.feeding.specs.Feed.{pieceProgram}

@@ -18,7 +18,8 @@ use Rattle.conforming.specs.Groups.{Line}
 use Rattle.conforming.specs.Verdict.{Verdict, Conforming, Differs, Refused70, Refused71}
 use Rattle.desk.specs.declared.Desk.{Desk}
 use Rattle.desk.specs.Place.{Place, isHalted}
-use Rattle.judgestep.specs.Step.{conformingText, noPacketText, endSays}
+use Rattle.concluding.specs.Closing.{conformingText, noPacketText}
+use Rattle.judgestep.specs.Step.{endSays}
 use Rattle.tasks.specs.declared.Task.the-variants.{Judge}
 use Rattle.tasks.specs.Tasks.{taskProgram}
 use Rattle.feeding.specs.Output.{unitOf, unitBehind, packFirst}

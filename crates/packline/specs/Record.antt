@@ -21,15 +21,19 @@ recordOf p m line = upperText line ++ (newline ∷ (linesOf (framesDue (packetIn
 abbrev pub recordAfter : Profile → Station → List ℕ → Station
 recordAfter p m line = packetAfter p m (packetIn line)
 
+-- A reason to stop that tells no character.
+abbrev pub haltBy : ℕ → Halt
+haltBy kind = record { kind = kind; place = 0; octet = 0 }
+
 -- Why a program stops at a line: it does not; the line is too long; a character is no digit; the digits are odd.
 abbrev pub goesOn : Halt
-goesOn = record { kind = 0; place = 0; octet = 0 }
+goesOn = haltBy 0
 
 abbrev pub haltLong : Halt
-haltLong = record { kind = 1; place = 0; octet = 0 }
+haltLong = haltBy 1
 
 abbrev pub haltOdd : Halt
-haltOdd = record { kind = 3; place = 0; octet = 0 }
+haltOdd = haltBy 3
 
 -- A character that is no digit: its place, from 1, and its octet.
 abbrev pub haltCharacter : List ℕ → Halt

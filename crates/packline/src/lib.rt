@@ -10,7 +10,7 @@ ghost use Rattle.lines.specs.Lines.{newline};
 ghost use Rattle.saying.specs.Text.{SaysBy};
 ghost use Rattle.packetline.specs.Packet.{linesOf};
 ghost use Rattle.hexline.specs.Said.{SaidBy};
-ghost use Rattle.packline.specs.Record.{recordOf, recordAfter, haltOf, refusedAt};
+ghost use Rattle.packline.specs.Record.{recordOf, recordAfter, haltBy, haltOf, refusedAt};
 
 // Why a program stops at a line.
 pub const GOES_ON: u8 = 0;
@@ -26,6 +26,17 @@ pub struct Halt {
     pub kind: u8,
     pub place: usize,
     pub octet: u8,
+}
+
+// A reason to stop that tells no character.
+pub fn stops(kind: u8) -> Halt
+    ensures { λ r. ⌜ r ≡ haltBy kind ⌝ }
+{
+    Halt {
+        kind,
+        place: 0,
+        octet: 0,
+    }
 }
 
 // The frames at the front of the output buffer, one a line, then an empty line.

@@ -2,7 +2,7 @@
 use console::Got;
 use desk::Desk;
 use feeding::Progress;
-use judgestep::DIFFERS;
+use judgeline::DIFFERS;
 use packline::GOES_ON;
 use tasks::Task;
 

@@ -22,8 +22,8 @@ returns c =
 counted-requires : tie.Need-counted-requires
 counted-requires c κs = search needs
 
-halt-requires : tie.Need-halt-requires
-halt-requires c κs = search needs
+stops-requires : tie.Need-stops-requires
+stops-requires c κs = search needs
 
 refused-requires : tie.Need-refused-requires
 refused-requires c κs = search needs
@@ -33,8 +33,8 @@ same-length-2 c = search needs
 
 returns-2 : tie.Need-returns-2
 returns-2 c =
-    judge-long-refused (c .before .before .before .before .before .before .before .before .before .args .d) (c .before .before .before .before .before .counted .result) (c .before .before .before .before .halt .result) (c .before .before .refused .result) (sym (c .before .before .before .before .before .before .before .is-halted .ensures) ∙ c .before .before .before .before .before .before .if1 .left)
-    (c .before .before .before .before .before .counted .ensures) (c .before .before .before .before .halt .ensures) (c .before .before .refused .ensures .0) (c .before .before .refused .ensures .1)
+    judge-long-refused (c .before .before .before .before .before .before .before .before .before .args .d) (c .before .before .before .before .before .counted .result) (c .before .before .before .before .stops .result) (c .before .before .refused .result) (sym (c .before .before .before .before .before .before .before .is-halted .ensures) ∙ c .before .before .before .before .before .before .if1 .left)
+    (c .before .before .before .before .before .counted .ensures) (c .before .before .before .before .stops .ensures) (c .before .before .refused .ensures .0) (c .before .before .refused .ensures .1)
 
 pub judge-long-spec : {M : Type 1} → statement M
 judge-long-spec =
@@ -45,7 +45,7 @@ judge-long-spec =
     same-length
     returns
     counted-requires
-    halt-requires
+    stops-requires
     refused-requires
     same-length-2
     returns-2)

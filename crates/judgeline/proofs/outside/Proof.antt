@@ -1,6 +1,6 @@
--- `judgestep::outside` meets its contract.
+-- `judgeline::outside` meets its contract.
 -- Assumes nothing.
-use Rattle.judgestep.proofs.Judging.{outside-empty, outside-bad, did-served}
+use Rattle.judgeline.proofs.Lines.{outside-empty, outside-bad, did-served}
 use mathlib.Core.Path.{sym, ap, _∙_}
 use denote.Ref.{now}
 use Rattle.saying.proofs.Saying.{says-none, says-as}
@@ -8,10 +8,10 @@ use Rattle.packline.specs.declared.Halt.{Halt}
 use Rattle.packline.specs.Record.{haltOf}
 use Rattle.desk.specs.Place.{placeOf, halting}
 use Rattle.desk.proofs.Doing.{did-alone, did-as}
-use Rattle.judgestep.specs.Step.{badSays}
+use Rattle.judgeline.specs.Step.{badSays}
 use borrow.Author.Needs.{needs}
-use Rattle.judgestep.proofs.outside.Statement.{statement}
-use Rattle.judgestep.proofs.outside.Tie as tie
+use Rattle.judgeline.proofs.outside.Statement.{statement}
+use Rattle.judgeline.proofs.outside.Tie as tie
 
 nothing-requires : tie.Need-nothing-requires
 nothing-requires c κs = search needs

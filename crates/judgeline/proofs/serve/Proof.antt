@@ -1,11 +1,11 @@
--- `judgestep::serve` meets its contract.
+-- `judgeline::serve` meets its contract.
 -- Assumes nothing.
-use Rattle.judgestep.proofs.Judging.{served-place}
+use Rattle.judgeline.proofs.Lines.{served-place}
 use denote.Ref.{now}
 use Rattle.desk.specs.Place.{placeOf}
 use borrow.Author.Needs.{needs}
-use Rattle.judgestep.proofs.serve.Statement.{statement}
-use Rattle.judgestep.proofs.serve.Tie as tie
+use Rattle.judgeline.proofs.serve.Statement.{statement}
+use Rattle.judgeline.proofs.serve.Tie as tie
 
 serve-requires : tie.Need-serve-requires
 serve-requires c κs = search needs

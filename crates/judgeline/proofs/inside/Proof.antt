@@ -1,16 +1,16 @@
--- `judgestep::inside` meets its contract.
+-- `judgeline::inside` meets its contract.
 -- Assumes nothing.
-use Rattle.judgestep.proofs.Judging.{inside-bad, inside-agrees, inside-differs}
+use Rattle.judgeline.proofs.Lines.{inside-bad, inside-agrees, inside-differs}
 use mathlib.Core.Path.{sym, ap, _∙_}
 use denote.Ref.{now}
 use Rattle.saying.proofs.Saying.{says-none, says-as}
 use Rattle.laws.proofs.Tests.{refused, passed}
 use Rattle.packline.specs.declared.Halt.{Halt}
 use Rattle.desk.specs.Place.{halting}
-use Rattle.judgestep.specs.Step.{badSays}
+use Rattle.judgeline.specs.Step.{badSays}
 use borrow.Author.Needs.{needs}
-use Rattle.judgestep.proofs.inside.Statement.{statement}
-use Rattle.judgestep.proofs.inside.Tie as tie
+use Rattle.judgeline.proofs.inside.Statement.{statement}
+use Rattle.judgeline.proofs.inside.Tie as tie
 
 is-packet-requires : tie.Need-is-packet-requires
 is-packet-requires c κs = search needs

@@ -1,13 +1,13 @@
--- `judgestep::conclude` meets its contract.
+-- `concluding::conclude` meets its contract.
 -- Assumes nothing.
-use Rattle.judgestep.proofs.Judging.{closing-halted, closing-some, closing-none}
+use Rattle.concluding.proofs.Closing.{closing-halted, closing-some, closing-none}
 use mathlib.Core.Path.{sym, ap, _∙_}
 use Rattle.saying.proofs.Saying.{says-none, says-as}
 use Rattle.packline.specs.declared.Halt.{Halt}
 use Rattle.desk.specs.Place.{halting}
 use borrow.Author.Needs.{needs}
-use Rattle.judgestep.proofs.conclude.Statement.{statement}
-use Rattle.judgestep.proofs.conclude.Tie as tie
+use Rattle.concluding.proofs.conclude.Statement.{statement}
+use Rattle.concluding.proofs.conclude.Tie as tie
 
 is-halted-requires : tie.Need-is-halted-requires
 is-halted-requires c κs = search needs
@@ -40,8 +40,8 @@ slice-aggregate-text c = search needs
 text-requires : tie.Need-text-requires
 text-requires c κs = search needs
 
-halt-requires : tie.Need-halt-requires
-halt-requires c κs = search needs
+stops-requires : tie.Need-stops-requires
+stops-requires c κs = search needs
 
 halting-requires : tie.Need-halting-requires
 halting-requires c κs = search needs
@@ -53,7 +53,7 @@ returns-3 : tie.Need-returns-3
 returns-3 c =
     let d = c .before .before .before .before .before .before .before .before .before .before .before .before .args .d in
     let e = closing-none d (sym (c .before .before .before .before .before .before .before .before .before .before .is-halted .ensures) ∙ c .before .before .before .before .before .before .before .before .before .if1 .left) (c .before .before .before .before .before .before .before .if2 .left) in
-    (says-as (e .0) (c .before .before .before .before .text2 .ensures), c .halting .ensures ∙ ap (λ (h : Halt). halting d h) (c .before .halt .ensures) ∙ e .1)
+    (says-as (e .0) (c .before .before .before .before .text2 .ensures), c .halting .ensures ∙ ap (λ (h : Halt). halting d h) (c .before .stops .ensures) ∙ e .1)
 
 pub conclude-spec : {M : Type 1} → statement M
 conclude-spec =
@@ -68,7 +68,7 @@ conclude-spec =
     returns-2
     slice-aggregate-text
     text-requires
-    halt-requires
+    stops-requires
     halting-requires
     same-length-3
     returns-3)

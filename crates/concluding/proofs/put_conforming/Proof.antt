@@ -1,9 +1,9 @@
--- `judgestep::put_conforming` meets its contract.
+-- `concluding::put_conforming` meets its contract.
 -- Assumes nothing.
 use Rattle.saying.proofs.Saying.{says-append}
 use borrow.Author.Needs.{needs}
-use Rattle.judgestep.proofs.put_conforming.Statement.{statement}
-use Rattle.judgestep.proofs.put_conforming.Tie as tie
+use Rattle.concluding.proofs.put_conforming.Statement.{statement}
+use Rattle.concluding.proofs.put_conforming.Tie as tie
 
 slice-aggregate-text : tie.Need-slice-aggregate-text
 slice-aggregate-text c = search needs

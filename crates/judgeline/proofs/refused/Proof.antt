@@ -1,9 +1,9 @@
--- `judgestep::refused` meets its contract.
+-- `judgeline::refused` meets its contract.
 -- Assumes nothing.
 use Rattle.saying.proofs.Saying.{says-append}
 use borrow.Author.Needs.{needs}
-use Rattle.judgestep.proofs.refused.Statement.{statement}
-use Rattle.judgestep.proofs.refused.Tie as tie
+use Rattle.judgeline.proofs.refused.Statement.{statement}
+use Rattle.judgeline.proofs.refused.Tie as tie
 
 put-refused-requires : tie.Need-put-refused-requires
 put-refused-requires c κs = search needs

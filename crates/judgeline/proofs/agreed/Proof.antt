@@ -1,13 +1,13 @@
--- `judgestep::agreed` meets its contract.
+-- `judgeline::agreed` meets its contract.
 -- Assumes nothing.
-use Rattle.judgestep.proofs.Judging.{agreed-empty, agreed-frame}
+use Rattle.judgeline.proofs.Lines.{agreed-empty, agreed-frame}
 use mathlib.Core.Path.{ap, _∙_}
 use denote.Ref.{now}
 use Rattle.grouping.specs.declared.Group.{Group}
 use Rattle.desk.specs.Place.{withGroup}
 use borrow.Author.Needs.{needs}
-use Rattle.judgestep.proofs.agreed.Statement.{statement}
-use Rattle.judgestep.proofs.agreed.Tie as tie
+use Rattle.judgeline.proofs.agreed.Statement.{statement}
+use Rattle.judgeline.proofs.agreed.Tie as tie
 
 close-requires : tie.Need-close-requires
 close-requires c κs = search needs
