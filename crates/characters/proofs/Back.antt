@@ -1,11 +1,13 @@
 -- The text of octets is digits, and reads back as those octets.
 -- Assumes nothing.
-use mathlib.Core.Path.{_≡_, refl, sym, ap₂, _∙_}
+use mathlib.Core.Path.{_≡_, refl, sym, ap, ap₂, _∙_}
 use mathlib.Core.Bool.{true, false}
-use mathlib.Core.List.{List, [], _∷_}
+use mathlib.Core.List.{List, [], _∷_, _++_}
 use Prim.Native.Nat.{ℕ, zero, suc, _+_, _*_, _-_, _/_, _%_, _<_}
 use native.Mathlib.Omega.{arith}
+use lib.ListN.{length}
 use borrow.Author.Tests.{lt-ltb, le-ltb, le-leb, lt-leb}
+use Rattle.laws.proofs.Tests.{both}
 use Rattle.laws.proofs.Order.{by-order}
 use Rattle.octets.specs.Numbers.{Octets}
 use Rattle.characters.specs.Digits.{within, valueOf, isDigit, digitOf, textOf, allDigits, octetsIn}
@@ -51,3 +53,20 @@ in-octets [] k = omega arith
 in-octets (h ∷ []) k = omega arith
 in-octets (h ∷ l ∷ s) zero = omega arith
 in-octets (h ∷ l ∷ s) (suc k) = in-octets s k
+
+-- ---- texts one behind another
+
+-- Two texts of digits are one.
+pub digits-append : (s t : List ℕ) → allDigits s ≡ true → allDigits t ≡ true → allDigits (s ++ t) ≡ true
+unfolding allDigits
+digits-append [] t h k = k
+digits-append (c ∷ s) t h k =
+    let parts = both (isDigit c) (allDigits s) h in
+    rw (parts .0) (digits-append s t (parts .1) k)
+
+-- The octets of two texts, the first of which is even in length, are those of one.
+pub octets-append : (s t : List ℕ) → length s % 2 ≡ 0 → octetsIn (s ++ t) ≡ octetsIn s ++ octetsIn t
+unfolding octetsIn
+octets-append [] t h = refl
+octets-append (c ∷ []) t h = absurd (omega arith)
+octets-append (c ∷ d ∷ s) t h = ap (λ (r : List ℕ). (valueOf c % 16 * 16 + valueOf d % 16) ∷ r) (octets-append s t (omega arith))

@@ -96,6 +96,16 @@ pub fn counted(d: Desk) -> Desk
     next
 }
 
+// The desk one line further, at another place of a record.
+pub fn moved(d: Desk, group: Group) -> Desk
+    ensures { λ r. ⌜ r ≡ withGroup (Counted d) group ⌝ }
+{
+    let mut further = d;
+    further.number = std::num::wrapping_add_u64(d.number, 1);
+    further.group = group;
+    further
+}
+
 // The desk with a reason to stop.
 pub fn halting(d: Desk, halt: Halt) -> Desk
     ensures { λ r. ⌜ r ≡ Halting d halt ⌝ }

@@ -1,11 +1,12 @@
 -- What the judge does with a line, case by case: outside of a group, and inside of one.
 -- Assumes nothing.
 use mathlib.Core.Path.{_≡_, refl, sym, ap, ap₂, _∙_}
-use mathlib.Core.Bool.{true, false}
+use mathlib.Core.Bool.{Bool, true, false, cond}
 use mathlib.Core.List.{List, [], _∷_}
 use Prim.Native.Nat.{ℕ, _+_, _-_, min}
 use native.Mathlib.Omega.{arith}
 use lib.ListN.{length}
+use Rattle.laws.proofs.Tests.{by-test}
 use Rattle.characters.specs.Digits.{octetsIn}
 use Rattle.saying.proofs.Saying.{says-none}
 use Rattle.packetline.specs.Packet.{isPacket}
@@ -16,6 +17,8 @@ use Rattle.hexline.specs.Line.{packetInput, packetIn}
 use Rattle.hexline.proofs.Serving.{served-said}
 use Rattle.packline.specs.Record.{haltOf}
 use Rattle.beside.specs.Beside.{agrees}
+use Rattle.spelling.specs.Spelling.{spellsFrame}
+use Rattle.spelling.proofs.Spelled.{spells-packet, spells-agrees}
 use Rattle.differing.specs.Differing.{differsText}
 use Rattle.grouping.specs.declared.Group.{Group}
 use Rattle.grouping.specs.Group.{dueAt, opened, compared, closed}
@@ -24,7 +27,9 @@ use Rattle.desk.specs.declared.Done.{Done}
 use Rattle.desk.specs.Place.{Place, profileAt, stationAt, withState, withGroup, halting, atDesk}
 use Rattle.desk.specs.Did.{Did}
 use Rattle.desk.proofs.Doing.{did-as}
-use Rattle.judgeline.specs.Step.{haltDiffers, badSays, servedAt, outsideSays, outsideBecomes, insideSays, agreedDesk, insideDesk}
+use Rattle.judgeline.specs.declared.Found.{Found}
+use Rattle.judgeline.specs.declared.Found.the-variants.{Agrees, Differs, Bad}
+use Rattle.judgeline.specs.Step.{haltDiffers, badSays, servedAt, outsideSays, outsideBecomes, foundBy, behindLine, foundSays, agreedDesk, foundDesk, insideSays, insideDesk}
 
 -- ---- outside of a group
 
@@ -77,27 +82,55 @@ module _ (m : Place) (line : List ℕ) where
 
 -- ---- inside of a group
 
-pub agreed-empty : (d : Desk) (out line : List ℕ) → length line ≡ 0 → withGroup d (closed (d .group)) ≡ agreedDesk d out line
-agreed-empty d out [] e = refl
-agreed-empty d out (c ∷ line) e = absurd (omega arith)
+module _ (g : Group) (out line frame : List ℕ) (e : frame ≡ dueAt g out) where
+  -- A line that spells the frame due agrees with it.
+  pub found-spelled : spellsFrame frame line ≡ true → Agrees ≡ foundBy g out line
+  unfolding foundBy
+  found-spelled t =
+      let a : agrees (dueAt g out) (octetsIn line) ≡ true = ap (λ (f : List ℕ). agrees f (octetsIn line)) (sym e) ∙ spells-agrees frame line t in
+      sym (rw (spells-packet frame line t, a) refl)
 
-pub agreed-frame : (d : Desk) (out line : List ℕ) → (length line ≡ 0 → ⊥) → withGroup d (compared (d .group) out) ≡ agreedDesk d out line
-agreed-frame d out [] n = absurd (n refl)
-agreed-frame d out (c ∷ line) n = refl
+  -- So does any packet line of which the octets do, and any other differs.
+  pub found-as : {r : Bool} (found : Found) → cond r Agrees Differs ≡ found → isPacket line ≡ true → agrees frame (octetsIn line) ≡ r → found ≡ foundBy g out line
+  unfolding foundBy
+  found-as found f good t =
+      sym (rw good (ap (λ (b : Bool). cond b Agrees Differs) (ap (λ (x : List ℕ). agrees x (octetsIn line)) (sym e) ∙ t) ∙ f))
+
+pub found-bad : (g : Group) (out line : List ℕ) → isPacket line ≡ false → Bad ≡ foundBy g out line
+unfolding foundBy
+found-bad g out line t = sym (rw t refl)
+
+-- A line that differs is a packet line.
+pub differs-packet : (g : Group) (out line : List ℕ) → Differs ≡ foundBy g out line → isPacket line ≡ true
+unfolding foundBy
+differs-packet g out line e = by-test (isPacket line) (λ t. t) (λ w. let z : _≡_ {A = Found} Differs Bad = rw w at e in absurd (apart z))
+  where
+    apart : _≡_ {A = Found} Differs Bad → ⊥
+    apart z = let n : _≡_ {A = ℕ} 0 1 = cc in omega arith
+
+pub behind-empty : (g : Group) (out line : List ℕ) → length line ≡ 0 → closed g ≡ behindLine g out line
+behind-empty g out [] e = refl
+behind-empty g out (c ∷ line) e = absurd (omega arith)
+
+pub behind-frame : (g : Group) (out line : List ℕ) → (length line ≡ 0 → ⊥) → compared g out ≡ behindLine g out line
+behind-frame g out [] n = absurd (n refl)
+behind-frame g out (c ∷ line) n = refl
 
 module _ (d : Desk) (out line : List ℕ) where
-  pub inside-bad : isPacket line ≡ false → (badSays (d .number) (haltOf line) ≡ insideSays d out line) × (halting d (haltOf line) ≡ insideDesk d out line)
+  -- By what a line is found to be.
+  pub inside-found : (found : Found) → found ≡ foundBy (d .group) out line → (foundSays found d out line ≡ insideSays d out line) × (foundDesk found d out line ≡ insideDesk d out line)
   unfolding insideSays insideDesk
-  inside-bad t = rw t (refl, refl)
+  inside-found found e = (ap (λ (f : Found). foundSays f d out line) e, ap (λ (f : Found). foundDesk f d out line) e)
+
+  pub inside-bad : isPacket line ≡ false → (badSays (d .number) (haltOf line) ≡ insideSays d out line) × (halting d (haltOf line) ≡ insideDesk d out line)
+  inside-bad t = inside-found Bad (found-bad (d .group) out line t)
 
   module _ (frame : List ℕ) (e : frame ≡ dueAt (d .group) out) (good : isPacket line ≡ true) where
     pub inside-agrees : agrees frame (octetsIn line) ≡ true → ([] ≡ insideSays d out line) × (agreedDesk d out line ≡ insideDesk d out line)
-    unfolding insideSays insideDesk
-    inside-agrees t = let a : agrees (dueAt (d .group) out) (octetsIn line) ≡ true = ap (λ (f : List ℕ). agrees f (octetsIn line)) (sym e) ∙ t in rw (good, a) (refl, refl)
+    inside-agrees t = inside-found Agrees (found-as (d .group) out line frame e Agrees refl good t)
 
     pub inside-differs : agrees frame (octetsIn line) ≡ false
         → (differsText (d .number) (d .group .packet) frame line ≡ insideSays d out line) × (halting d haltDiffers ≡ insideDesk d out line)
-    unfolding insideSays insideDesk
     inside-differs t =
-        let a : agrees (dueAt (d .group) out) (octetsIn line) ≡ false = ap (λ (f : List ℕ). agrees f (octetsIn line)) (sym e) ∙ t in
-        rw (good, a) (ap (λ (f : List ℕ). differsText (d .number) (d .group .packet) f line) e, refl)
+        let f = inside-found Differs (found-as (d .group) out line frame e Differs refl good t) in
+        (ap (λ (x : List ℕ). differsText (d .number) (d .group .packet) x line) e ∙ f .0, f .1)

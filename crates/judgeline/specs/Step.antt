@@ -12,9 +12,12 @@ use Rattle.packline.specs.Record.{haltBy, haltOf, refusedAt}
 use Rattle.telling.specs.Telling.{haltLine}
 use Rattle.beside.specs.Beside.{agrees}
 use Rattle.differing.specs.Differing.{differsText}
+use Rattle.grouping.specs.declared.Group.{Group}
 use Rattle.grouping.specs.Group.{dueAt, opened, compared, closed}
 use Rattle.desk.specs.declared.Desk.{Desk}
 use Rattle.desk.specs.Place.{Place, profileAt, stationAt, withGroup, halting, atDesk, atStation}
+use Rattle.judgeline.specs.declared.Found.{Found}
+use Rattle.judgeline.specs.declared.Found.the-variants.{Agrees, Differs, Bad}
 
 -- Why the judge stops where a line differs.
 abbrev pub haltDiffers : Halt
@@ -38,19 +41,32 @@ unfoldable pub outsideBecomes : Place → List ℕ → Place
 outsideBecomes m [] = m
 outsideBecomes m (c ∷ line) = cond (isPacket (c ∷ line)) (servedAt m (c ∷ line)) (atDesk m (halting (m .desk) (haltOf (c ∷ line))))
 
--- A line inside of a group is set beside the frame due; the empty line that ends the group beside none.
-unfoldable pub insideSays : Desk → List ℕ → List ℕ → List ℕ
-insideSays d out line =
-    cond (isPacket line)
-    (cond (agrees (dueAt (d .group) out) (octetsIn line)) [] (differsText (d .number) (d .group .packet) (dueAt (d .group) out) line))
-    (badSays (d .number) (haltOf line))
+-- What a line inside of a group is found to be, beside the frame due: it agrees, it differs, or it is no packet line. The empty line that ends the group stands beside none.
+unfoldable pub foundBy : Group → List ℕ → List ℕ → Found
+foundBy g out line = cond (isPacket line) (cond (agrees (dueAt g out) (octetsIn line)) Agrees Differs) Bad
+
+-- The group behind a line that agrees.
+abbrev pub behindLine : Group → List ℕ → List ℕ → Group
+behindLine g out [] = closed g
+behindLine g out (c ∷ line) = compared g out
+
+-- What is said to it, and what goes on.
+abbrev pub foundSays : Found → Desk → List ℕ → List ℕ → List ℕ
+foundSays Agrees d out line = []
+foundSays Differs d out line = differsText (d .number) (d .group .packet) (dueAt (d .group) out) line
+foundSays Bad d out line = badSays (d .number) (haltOf line)
 
 abbrev pub agreedDesk : Desk → List ℕ → List ℕ → Desk
-agreedDesk d out [] = withGroup d (closed (d .group))
-agreedDesk d out (c ∷ line) = withGroup d (compared (d .group) out)
+agreedDesk d out line = withGroup d (behindLine (d .group) out line)
+
+abbrev pub foundDesk : Found → Desk → List ℕ → List ℕ → Desk
+foundDesk Agrees d out line = agreedDesk d out line
+foundDesk Differs d out line = halting d haltDiffers
+foundDesk Bad d out line = halting d (haltOf line)
+
+-- A line inside of a group.
+unfoldable pub insideSays : Desk → List ℕ → List ℕ → List ℕ
+insideSays d out line = foundSays (foundBy (d .group) out line) d out line
 
 unfoldable pub insideDesk : Desk → List ℕ → List ℕ → Desk
-insideDesk d out line =
-    cond (isPacket line)
-    (cond (agrees (dueAt (d .group) out) (octetsIn line)) (agreedDesk d out line) (halting d haltDiffers))
-    (halting d (haltOf line))
+insideDesk d out line = foundDesk (foundBy (d .group) out line) d out line

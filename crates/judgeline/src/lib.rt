@@ -1,16 +1,24 @@
 // A line of a record: outside of a group a packet is answered by the reference, and inside of one a line is set beside the frame due.
 use desk::Desk;
 use desk::Done;
+use grouping::Group;
 use packline::Halt;
 ghost use mathlib.Core.Path.{_≡_};
 ghost use Rattle.saying.specs.Text.{SaysBy};
 ghost use Rattle.differing.specs.Differing.{differsText};
 ghost use Rattle.desk.specs.Place.{placeOf, halting};
 ghost use Rattle.desk.specs.Did.{DidBy};
-ghost use Rattle.judgeline.specs.Step.{haltDiffers, badSays, servedAt, outsideSays, outsideBecomes, insideSays, insideDesk, agreedDesk};
+ghost use Rattle.judgeline.specs.Step.{haltDiffers, badSays, servedAt, outsideSays, outsideBecomes, foundBy, behindLine, foundSays, foundDesk};
 
 // Why the judge stops where a line differs.
 pub const DIFFERS: u8 = 4;
+
+// What a line inside of a group is found to be, beside the frame due: it agrees, it differs, or it is no packet line.
+pub enum Found {
+    Agrees,
+    Differs,
+    Bad,
+}
 
 // `refused 70`, the number of the line and why, and the judge stops.
 pub fn refused(d: Desk, halt: Halt, text: &mut [u8], at: usize) -> Done
@@ -55,14 +63,31 @@ pub fn outside(
     refused(d, packline::why(line), text, at)
 }
 
-// The desk behind a line that agrees.
-fn agreed(d: Desk, line: &[u8], out: &[u8]) -> Desk
-    ensures { λ r. ⌜ r ≡ agreedDesk d (now (out .entry)) (now (line .entry)) ⌝ }
+// A line inside of a group beside the frame due. Most lines spell it; of the others it is asked whether they are packet lines, and then octet by octet.
+pub fn beside_due(g: Group, line: &[u8], out: &[u8]) -> Found
+    ensures { λ r. ⌜ r ≡ foundBy g (now (out .entry)) (now (line .entry)) ⌝ }
+{
+    let frame = grouping::due(g, out);
+    if spelling::spells(frame, line) {
+        return Found::Agrees;
+    }
+    if !packetline::is_packet(line) {
+        return Found::Bad;
+    }
+    if beside::agree(frame, line) {
+        return Found::Agrees;
+    }
+    Found::Differs
+}
+
+// The group behind a line that agrees.
+pub fn behind(g: Group, line: &[u8], out: &[u8]) -> Group
+    ensures { λ r. ⌜ r ≡ behindLine g (now (out .entry)) (now (line .entry)) ⌝ }
 {
     if line.len() == 0 {
-        return desk::with_group(d, grouping::close(d.group));
+        return grouping::close(g);
     }
-    desk::with_group(d, grouping::compare(d.group, out))
+    grouping::compare(g, out)
 }
 
 // What is told of a line that differs, and the judge stops.
@@ -78,17 +103,15 @@ fn differs(d: Desk, frame: &[u8], line: &[u8], text: &mut [u8], at: usize) -> Do
     }
 }
 
-// A line inside of a group, which is counted already.
-pub fn inside(d: Desk, line: &[u8], out: &[u8], text: &mut [u8], at: usize) -> Done
-    ensures { λ r. ⌜ SaysBy (insideSays d (now (out .entry)) (now (line .entry))) at text (r .at) ⌝ }
-    ensures { λ r. ⌜ r .desk ≡ insideDesk d (now (out .entry)) (now (line .entry)) ⌝ }
+// A line inside of a group, which is counted already, by what it is found to be.
+pub fn inside(d: Desk, found: Found, line: &[u8], out: &[u8], text: &mut [u8], at: usize) -> Done
+    ensures { λ r. ⌜ SaysBy (foundSays found d (now (out .entry)) (now (line .entry))) at text (r .at) ⌝ }
+    ensures { λ r. ⌜ r .desk ≡ foundDesk found d (now (out .entry)) (now (line .entry)) ⌝ }
 {
-    if !packetline::is_packet(line) {
-        return refused(d, packline::why(line), text, at);
+    let group = d.group;
+    match found {
+        Found::Agrees => desk::nothing(desk::with_group(d, behind(group, line, out)), text, at),
+        Found::Differs => differs(d, grouping::due(group, out), line, text, at),
+        Found::Bad => refused(d, packline::why(line), text, at),
     }
-    let frame = grouping::due(d.group, out);
-    if beside::agree(frame, line) {
-        return desk::nothing(agreed(d, line, out), text, at);
-    }
-    differs(d, frame, line, text, at)
 }

@@ -9,13 +9,17 @@ use Rattle.saying.specs.Text.{Says}
 use Rattle.saying.proofs.Saying.{says-none, says-as, says-append}
 use Rattle.packline.specs.declared.Halt.{Halt}
 use Rattle.packline.specs.Record.{haltLong}
+use Rattle.grouping.specs.declared.Group.{Group}
 use Rattle.grouping.specs.Group.{nextNumber}
 use Rattle.desk.specs.declared.Desk.{Desk}
 use Rattle.desk.specs.declared.Done.{Done}
-use Rattle.desk.specs.Place.{Place, counted, halting, isHalted, atDesk, counting}
+use Rattle.desk.specs.Place.{Place, withGroup, counted, halting, isHalted, atDesk, counting}
 use Rattle.desk.specs.Did.{Did}
 use Rattle.desk.proofs.Doing.{did-alone, did-as}
-use Rattle.judgeline.specs.Step.{badSays, outsideSays, outsideBecomes, insideSays, insideDesk}
+use Rattle.judgeline.specs.declared.Found.{Found}
+use Rattle.judgeline.specs.declared.Found.the-variants.{Agrees}
+use Rattle.judgeline.specs.Step.{badSays, outsideSays, outsideBecomes, foundBy, behindLine, foundSays, foundDesk, insideSays, insideDesk}
+use Rattle.judgeline.proofs.Lines.{outside-empty, inside-found}
 use Rattle.concluding.specs.Closing.{closingSays, closingDesk}
 use Rattle.judgestep.specs.Step.{judgeSays, judgeBecomes, judgeLongSays, judgeLongDesk, endSays, endBecomes}
 
@@ -50,6 +54,28 @@ module _ (m : Place) (line : List ℕ) {at : ℕ} {text : List ℕ} (r : Done) w
   judge-outside d h o f s =
       did-as (cond-outside m line h o)
       (did-as (ap (λ (x : Desk). outsideSays (atDesk m x) line) (sym f), ap (λ (x : Desk). outsideBecomes (atDesk m x) line) (sym f)) s)
+
+-- Inside of a group, by what the line is found to be.
+module _ (m : Place) (line : List ℕ) {at : ℕ} {text : List ℕ} (r : Done) (going : isHalted (m .desk) ≡ false) (inner : m .desk .group .«open» ≡ true) (found : Found) (e : found ≡ foundBy (m .desk .group) (m .out) line) where
+  pub judge-found : (d : Desk) {text′ : List ℕ} → d ≡ counted (m .desk) → Says (foundSays found d (m .out) line) at text (r .at) text′ → r .desk ≡ foundDesk found d (m .out) line
+      → Did (judgeSays m line) (judgeBecomes m line) at text r (m .store) (m .out) text′
+  judge-found d f s g =
+      let i = inside-found (counted (m .desk)) (m .out) line found e in
+      judge-inside m line r (counted (m .desk)) going inner refl
+      (says-as (ap (λ (x : Desk). foundSays found x (m .out) line) f ∙ i .0) s) (g ∙ ap (λ (x : Desk). foundDesk found x (m .out) line) f ∙ i .1)
+
+  pub judge-agrees : (g : Group) (d : Desk) → found ≡ Agrees → g ≡ behindLine (m .desk .group) (m .out) line → d ≡ withGroup (counted (m .desk)) g → r .at ≡ min at (length text + 1) → r .desk ≡ d
+      → Did (judgeSays m line) (judgeBecomes m line) at text r (m .store) (m .out) text
+  judge-agrees g d a b f p q =
+      judge-found (counted (m .desk)) refl (says-as (ap (λ (x : Found). foundSays x (counted (m .desk)) (m .out) line) (sym a)) (says-none p))
+      (q ∙ f ∙ ap (λ (x : Group). withGroup (counted (m .desk)) x) b ∙ ap (λ (x : Found). foundDesk x (counted (m .desk)) (m .out) line) (sym a))
+
+-- Outside of one an empty line is passed over.
+pub judge-passes : (m : Place) (line : List ℕ) {at : ℕ} {text : List ℕ} (r : Done) (d : Desk) → isHalted (m .desk) ≡ false → m .desk .group .«open» ≡ false → length line ≡ 0
+    → d ≡ counted (m .desk) → r .at ≡ min at (length text + 1) → r .desk ≡ d → Did (judgeSays m line) (judgeBecomes m line) at text r (m .store) (m .out) text
+judge-passes m line r d going outer empty f p q =
+    judge-outside m line r (counted (m .desk)) going outer refl
+    (did-as (outside-empty (counting m) line empty) (record { says = says-none p; desk-is = q ∙ f; store-is = refl; out-is = refl }))
 
 -- A line that is too long.
 pub judge-long-halted : (d : Desk) {at : ℕ} {text : List ℕ} (r : Done) → isHalted d ≡ true → r .at ≡ min at (length text + 1) → r .desk ≡ d

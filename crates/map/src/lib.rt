@@ -21,16 +21,16 @@ pub struct Flags {
     pub connection: bool,
 }
 
-// Some consecutive addresses of one memory, and where their words stand in the store.
+// Some consecutive addresses of one memory, and where their words stand in the store. In this order a profile's areas have no gaps: programs carry them by value from line to line.
 pub struct Area {
-    // The memory ID.
-    pub id: u8,
     // The address of the first word.
     pub start: u32,
     // How many words there are.
     pub length: u32,
     // The store word that holds the first one.
     pub first: u32,
+    // The memory ID.
+    pub id: u8,
     pub rights: Rights,
 }
 

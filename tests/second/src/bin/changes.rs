@@ -25,7 +25,8 @@ const USAGE: &str = "usage: changes RECORDS SEED COMMAND..";
 const AT_A_TIME: usize = 2;
 /// After so many other answers no more records are tried.
 const OTHER_ANSWERS: u64 = 10;
-/// A record gets packets until its TM lines have so many octets.
+/// One record in so many gets packets until its TM lines have that many octets; the others have one packet each.
+const RECORDS_FOR_ONE_LONG: u64 = 4;
 const TM_OCTETS: usize = 48;
 /// Type and subtype of each kind of frame.
 const KINDS: [(u8, u8); 6] = [(1, 1), (1, 2), (1, 7), (6, 6), (6, 10), (17, 2)];
@@ -107,10 +108,13 @@ fn sample(random: &mut Random, number: u64) -> Sample {
     let unit = unit::read(&mut text.as_slice());
     let unit = unit.expect("it is in memory").expect("it is no bad file");
     let mut packets = vec![packet(random, &stated, KINDS[number as usize % KINDS.len()])];
+    // The kinds come round once before a turn of long and short ones goes on.
+    let long = (number / KINDS.len() as u64).is_multiple_of(RECORDS_FOR_ONE_LONG);
+    let enough = if long { TM_OCTETS } else { 1 };
     loop {
         let record = sample_record::conforming(random, unit.clone(), &packets);
         let octets: usize = record.iter().filter_map(Entry::frame).map(Vec::len).sum();
-        if octets >= TM_OCTETS {
+        if octets >= enough {
             return Sample { unit: text, record };
         }
         let kind = random.pick(&KINDS);
