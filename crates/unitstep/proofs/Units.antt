@@ -10,8 +10,9 @@ use Rattle.octets.specs.Numbers.{Octets}
 use Rattle.stating.specs.Faults.{fine, lineLong}
 use Rattle.unit.specs.declared.Draft.{Draft}
 use Rattle.unit.specs.declared.Stated.{Stated}
-use Rattle.unit.specs.Unit.{lineStated, linePut, endFault}
-use Rattle.unit.proofs.Octets.{put-octets}
+use Rattle.unitline.specs.Line.{lineStated, linePut}
+use Rattle.unit.specs.Unit.{endFault}
+use Rattle.unitline.proofs.Octets.{put-octets}
 use Rattle.packline.specs.declared.Halt.{Halt}
 use Rattle.desk.specs.declared.Desk.{Desk}
 use Rattle.desk.specs.Place.{withDraft, counted, halting, isHalted}

@@ -4,7 +4,8 @@ use mathlib.Core.List.{List}
 use Prim.Native.Nat.{ℕ}
 use lib.Dec.{eqb}
 use Rattle.stating.specs.Faults.{fine, lineLong}
-use Rattle.unit.specs.Unit.{lineStated, linePut, endFault}
+use Rattle.unitline.specs.Line.{lineStated, linePut}
+use Rattle.unit.specs.Unit.{endFault}
 use Rattle.packline.specs.declared.Halt.{Halt}
 use Rattle.desk.specs.declared.Desk.{Desk}
 use Rattle.desk.specs.Place.{Place, withDraft, counted, halting, isHalted}

@@ -27,7 +27,7 @@ pub fn unit_desk(d: Desk, line: &[u8], store: &mut [u8]) -> Desk
         return d;
     }
     let draft = d.draft;
-    let s = unit::state(draft, line, store);
+    let s = unitline::state(draft, line, store);
     let stated = s.draft;
     let next = desk::counted(desk::with_draft(d, stated));
     desk::halting(next, faulty(s.fault))

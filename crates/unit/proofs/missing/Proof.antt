@@ -2,7 +2,6 @@
 -- Assumes nothing.
 use Rattle.unit.specs.Unit.{endFault}
 use borrow.Author.Tests.{not-true, not-false}
-use borrow.Author.Needs.{needs}
 use Rattle.unit.proofs.missing.Statement.{statement}
 use Rattle.unit.proofs.missing.Tie as tie
 

@@ -2,7 +2,6 @@
 -- Assumes nothing.
 use Rattle.map.specs.declared.Area.{Area}
 use Rattle.stating.specs.Stating.{noFlags}
-use Rattle.unit.specs.declared.Draft.{Draft}
 use lib.ListN.{replicate}
 use mathlib.Core.Bool.{false}
 use mathlib.Core.Path.{ap}
