@@ -9,7 +9,6 @@ use lib.Dec.{leb}
 use borrow.Author.Tests.{leb-true, leb-false, eqb-true}
 use Rattle.laws.proofs.Tests.{by-test, halves}
 use Rattle.fields.specs.Fields.{apidOf}
-use Rattle.checks.specs.declared.Verdict.{Verdict}
 use Rattle.checks.specs.declared.Verdict.the-variants.{Accepted}
 use Rattle.checks.specs.Verdict.{isAccepted, silent}
 use Rattle.checks.specs.Table.{AllHold}
@@ -30,9 +29,11 @@ use Rattle.requests.specs.declared.Action.{Action}
 use Rattle.requests.specs.declared.Request.the-variants.{Memory, Connection}
 use Rattle.requests.specs.declared.Asked.{Asked}
 use Rattle.requests.specs.declared.Asked.the-variants.{Known, Unknown}
-use Rattle.decide.specs.declared.Decision.{Decision}
+use Rattle.serving.specs.declared.Decision.{Decision}
 use Rattle.requests.specs.Request.{serves, offers, rightFor, carriedBy, areaNamed, isFound, outsideOf}
-use Rattle.decide.specs.Table.{outLeast, callerRight, hasRight, allInside, callerRows, areaRows, memoryRows, memoryTask, serviceRows, taskFor, askedBy, requestRows, rows, decided, decisionOf, Formed, FormedFor}
+use Rattle.decide.specs.Table.{outLeast, callerRight, callerRows, rows, decided, decisionOf}
+use Rattle.serving.specs.Services.{hasRight, allInside, areaRows, memoryRows, memoryTask, Formed, FormedFor}
+use Rattle.addressing.specs.Requested.{serviceRows, taskFor, askedBy, requestRows}
 use Rattle.decide.proofs.Checked.{decision-decided, at-buffer, at-caller, at-reader}
 
 -- ---- check 41, part by part

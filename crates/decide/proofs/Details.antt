@@ -24,7 +24,9 @@ use Rattle.requests.specs.declared.Asked.the-variants.{Known, Unknown}
 use Rattle.requests.specs.Request.{carriedBy, mostWords, areaNamed}
 use Rattle.requests.proofs.Outside.{outside-small}
 use Rattle.decide.specs.declared.State.{State}
-use Rattle.decide.specs.Table.{callerRows, outsideNumber, areaRows, memoryRows, connectionRows, serviceRows, askedBy, requestRows, rows, decided}
+use Rattle.decide.specs.Table.{callerRows, rows, decided}
+use Rattle.serving.specs.Services.{outsideNumber, areaRows, memoryRows, connectionRows}
+use Rattle.addressing.specs.Requested.{serviceRows, askedBy, requestRows}
 
 -- The detail of a row has 16 bits.
 abbrev Small : Row Refusal → Type 0

@@ -1,4 +1,3 @@
 pub mod Checked
-pub mod Serving
 pub mod Decided
 pub mod Details

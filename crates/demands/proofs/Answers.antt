@@ -9,7 +9,7 @@ use Rattle.tc.specs.Layout.{fieldsOf, applicationOf}
 use Rattle.map.specs.declared.Profile.{Profile}
 use Rattle.wider.specs.Wider.{wider}
 use Rattle.wider.proofs.Widening.{wider-facts}
-use Rattle.decide.specs.Table.{askedBy}
+use Rattle.addressing.specs.Requested.{askedBy}
 use Rattle.decide.proofs.Decided.{accepted-facts}
 use Rattle.terminal.specs.Outcome.{doneBy, reportsDue, storeAfter, verdictOn, reportsOn, framesDue, outcomeOf, outAfter, storeOn}
 use Rattle.terminal.specs.Run.{Machine, Step, inputFor}

@@ -16,7 +16,9 @@ use Rattle.blocks.specs.Form.{headRight, blockRight, blockFault, endOf, exact, 
 use Rattle.counts.specs.Counts.{categoryOf, countIn, advanced, inRange}
 use Rattle.tm.specs.Frame.{headOf as frameHeadOf, frameOf, stamped, framesOf, countsAfter}
 use Rattle.requests.specs.Request.{serves, memoryAsked, askedFor, outsideOf}
-use Rattle.decide.specs.Table.{callerRight, callerRows, areaRows, memoryRows, connectionRows, requestRows, rows, decided}
+use Rattle.decide.specs.Table.{callerRight, callerRows, rows, decided}
+use Rattle.serving.specs.Services.{areaRows, memoryRows, connectionRows}
+use Rattle.addressing.specs.Requested.{requestRows}
 use Rattle.memory.specs.Memory.{entriesOf, loaded}
 use Rattle.terminal.specs.Outcome.{reportsFor, reportsDue, storeAfter, framesDue, outcomeOf, outAfter, storeOn}
 use Rattle.characters.specs.Digits.{valueOf, digitOf, textOf, allDigits, octetsIn}

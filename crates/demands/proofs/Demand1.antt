@@ -34,7 +34,9 @@ use Rattle.requests.specs.declared.Request.the-variants.{Memory, Connection}
 use Rattle.requests.specs.declared.Asked.{Asked}
 use Rattle.requests.specs.declared.Asked.the-variants.{Known, Unknown}
 use Rattle.decide.proofs.Decided.{accepted-facts}
-use Rattle.decide.specs.Table.{callerRows, areaRows, memoryRows, connectionRows, serviceRows, requestRows, rows, decided}
+use Rattle.decide.specs.Table.{callerRows, rows, decided}
+use Rattle.serving.specs.Services.{areaRows, memoryRows, connectionRows}
+use Rattle.addressing.specs.Requested.{serviceRows, requestRows}
 use Rattle.terminal.specs.Outcome.{Input, verdictOn, octetsDue, outcomeOf, storeOn}
 use Rattle.terminal.proofs.Answering.{refused-store}
 use Rattle.terminal.proofs.Refusing.{no-octets, same-state, same-buffer, one-frame, one-count, frame-octets, frame-first}

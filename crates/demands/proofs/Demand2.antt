@@ -31,7 +31,7 @@ use Rattle.requests.specs.declared.Request.the-variants.{Memory}
 use Rattle.requests.specs.declared.Asked.{Asked}
 use Rattle.requests.specs.declared.Asked.the-variants.{Known}
 use Rattle.requests.specs.Request.{carriedBy, mostWords, areaNamed, outsideOf}
-use Rattle.decide.specs.Table.{serviceRows}
+use Rattle.addressing.specs.Requested.{serviceRows}
 use Rattle.decide.proofs.Decided.{accepted-facts, memory-facts}
 use Rattle.memory.specs.Memory.{loaded, storedOf}
 use Rattle.memory.proofs.Loaded.{Beyond, loaded-length, loaded-elsewhere, loaded-last, loaded-read}

@@ -28,7 +28,9 @@ use Rattle.requests.specs.declared.Request.the-variants.{Memory as Asks, Connec
 use Rattle.requests.specs.declared.Asked.{Asked}
 use Rattle.requests.specs.declared.Asked.the-variants.{Known, Unknown}
 use Rattle.requests.specs.Request.{areaNamed}
-use Rattle.decide.specs.Table.{outsideNumber, allInside, callerRows, areaRows, memoryRows, connectionRows, serviceRows, askedBy, requestRows, rows, decided}
+use Rattle.serving.specs.Services.{outsideNumber, allInside, areaRows, memoryRows, connectionRows}
+use Rattle.decide.specs.Table.{callerRows, rows, decided}
+use Rattle.addressing.specs.Requested.{serviceRows, askedBy, requestRows}
 use Rattle.demands.proofs.Widened.{outside-later}
 use Rattle.demands.specs.Widening.{parts}
 use Rattle.demands.proofs.Rows.{same-verdict}

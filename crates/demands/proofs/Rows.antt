@@ -32,7 +32,9 @@ use Rattle.requests.specs.declared.Request.the-variants.{Memory, Connection}
 use Rattle.requests.specs.declared.Asked.{Asked}
 use Rattle.requests.specs.declared.Asked.the-variants.{Known, Unknown}
 use Rattle.requests.specs.Request.{memoryType, connectionType, serves, flagFor, offers, areaNamed}
-use Rattle.decide.specs.Table.{callerRight, callerRows, areaRows, memoryRows, connectionRows, serviceRows, askedBy, requestRows, rows, decided}
+use Rattle.decide.specs.Table.{callerRight, callerRows, rows, decided}
+use Rattle.serving.specs.Services.{areaRows, memoryRows, connectionRows}
+use Rattle.addressing.specs.Requested.{serviceRows, askedBy, requestRows}
 use Rattle.demands.specs.Refusing.{numbersOf, tableNumbers}
 use Rattle.demands.specs.Widening.{parts, order, placeIn, rank}
 use Rattle.demands.proofs.Widened.{found-grows, right-grows, inside-grows}

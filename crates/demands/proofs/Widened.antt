@@ -29,7 +29,8 @@ use Rattle.requests.specs.declared.Request.the-variants.{Memory, Connection}
 use Rattle.requests.specs.declared.Asked.{Asked}
 use Rattle.requests.specs.declared.Asked.the-variants.{Known, Unknown}
 use Rattle.requests.specs.Request.{rightFor, carriedBy, isFound, outsideOf}
-use Rattle.decide.specs.Table.{hasRight, outsideNumber, allInside, serviceRows, taskFor}
+use Rattle.serving.specs.Services.{hasRight, outsideNumber, allInside}
+use Rattle.addressing.specs.Requested.{serviceRows, taskFor}
 use Rattle.decide.proofs.Decided.{memory-facts}
 use Rattle.memory.specs.Memory.{entriesOf, loaded}
 use Rattle.laying.specs.Reports.{dumped}

@@ -7,7 +7,8 @@ use Rattle.checks.specs.Table.{Row}
 use Rattle.tc.specs.Layout.{fieldsOf}
 use Rattle.map.specs.declared.Profile.{Profile}
 use Rattle.requests.specs.declared.Asked.{Asked}
-use Rattle.decide.specs.Table.{askedBy, rows}
+use Rattle.addressing.specs.Requested.{askedBy}
+use Rattle.decide.specs.Table.{rows}
 use Rattle.terminal.specs.Outcome.{Input, outcomeOf, outAfter, storeOn}
 use Rattle.terminal.specs.Run.{Machine, Step, Answer, inputFor}
 

@@ -23,9 +23,10 @@ use Rattle.requests.specs.declared.Action.{Action}
 use Rattle.requests.specs.declared.Action.the-variants.{Load, Dump, Check}
 use Rattle.requests.specs.Request.{carriedBy, mostWords}
 use Rattle.laying.specs.Reports.{echo, failed, dumped, checked, connected, asked, asksAcceptance, asksCompletion}
-use Rattle.decide.specs.declared.Task.{Task}
-use Rattle.decide.specs.declared.Task.the-variants.{Idle, Memory, Connection}
-use Rattle.decide.specs.Table.{taskOf, Formed, FormedFor}
+use Rattle.serving.specs.declared.Task.{Task}
+use Rattle.serving.specs.declared.Task.the-variants.{Idle, Memory, Connection}
+use Rattle.decide.specs.Table.{taskOf}
+use Rattle.serving.specs.Services.{Formed, FormedFor}
 use Rattle.terminal.specs.Done.{memoryDone, done}
 use Rattle.terminal.specs.Outcome.{Input, doneBy, reportsFor, verdictOn, reportsOn}
 use Rattle.terminal.proofs.Answering.{accepted-due, accepted-formed, refused-due, silent-due}

@@ -14,8 +14,8 @@ use Rattle.requests.specs.declared.Action.{Action}
 use Rattle.requests.specs.declared.Action.the-variants.{Load, Dump, Check}
 use Rattle.requests.specs.Request.{carriedBy}
 use Rattle.memory.proofs.Octets.{loaded-octets}
-use Rattle.decide.specs.declared.Task.{Task}
-use Rattle.decide.specs.declared.Task.the-variants.{Idle, Memory, Connection}
+use Rattle.serving.specs.declared.Task.{Task}
+use Rattle.serving.specs.declared.Task.the-variants.{Idle, Memory, Connection}
 use Rattle.decide.specs.Table.{taskOf}
 use Rattle.terminal.specs.Done.{memoryDone, done}
 use Rattle.terminal.specs.Outcome.{Input, verdictOn, storeOn}

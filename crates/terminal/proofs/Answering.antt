@@ -12,7 +12,9 @@ use Rattle.checks.specs.declared.Verdict.{Verdict}
 use Rattle.checks.specs.Verdict.{isAccepted, silent}
 use Rattle.tc.specs.Layout.{fieldsOf, applicationOf}
 use Rattle.tm.specs.Frame.{Report, countsAfter}
-use Rattle.decide.specs.Table.{askedBy, taskOf, FormedFor}
+use Rattle.addressing.specs.Requested.{askedBy}
+use Rattle.decide.specs.Table.{taskOf}
+use Rattle.serving.specs.Services.{FormedFor}
 use Rattle.decide.proofs.Decided.{heard-facts, accepted-facts, formed-for}
 use Rattle.terminal.specs.declared.Outcome.{Outcome}
 use Rattle.laying.specs.declared.Sender.{Sender}

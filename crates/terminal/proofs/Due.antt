@@ -21,10 +21,11 @@ use Rattle.tm.specs.Frame.{Report, frameHead, timeOf, timed, framesOf, cut}
 use Rattle.tm.proofs.Frame.{time-six}
 use Rattle.tm.proofs.Frames.{octetsIn, frames-size, size-append, cut-frames, frames-long, frames-timed}
 use Rattle.requests.specs.declared.Action.the-variants.{Load, Dump, Check}
-use Rattle.decide.specs.declared.Task.{Task}
-use Rattle.decide.specs.declared.Task.the-variants.{Idle, Memory, Connection}
+use Rattle.serving.specs.declared.Task.{Task}
+use Rattle.serving.specs.declared.Task.the-variants.{Idle, Memory, Connection}
 use Rattle.requests.specs.Request.{carriedBy, mostWords}
-use Rattle.decide.specs.Table.{taskOf, FormedFor, Formed}
+use Rattle.decide.specs.Table.{taskOf}
+use Rattle.serving.specs.Services.{FormedFor, Formed}
 use Rattle.decide.proofs.Decided.{heard-facts}
 use Rattle.laying.specs.Reports.{echo, asked, asksAcceptance, asksCompletion}
 use Rattle.terminal.specs.Done.{memoryDone, done}

@@ -29,10 +29,12 @@ use Rattle.requests.specs.declared.Action.the-variants.{Load, Dump, Check}
 use Rattle.requests.specs.declared.Request.the-variants.{Memory as Asks, Connection as Connects}
 use Rattle.requests.specs.declared.Asked.{Asked}
 use Rattle.requests.specs.declared.Asked.the-variants.{Known, Unknown}
-use Rattle.decide.specs.declared.Task.{Task}
-use Rattle.decide.specs.declared.Task.the-variants.{Idle, Memory, Connection}
+use Rattle.serving.specs.declared.Task.{Task}
+use Rattle.serving.specs.declared.Task.the-variants.{Idle, Memory, Connection}
 use Rattle.requests.specs.Request.{carriedBy, mostWords, outsideOf}
-use Rattle.decide.specs.Table.{serviceRows, askedBy, taskFor, taskOf, Formed}
+use Rattle.addressing.specs.Requested.{serviceRows, askedBy, taskFor}
+use Rattle.decide.specs.Table.{taskOf}
+use Rattle.serving.specs.Services.{Formed}
 use Rattle.decide.proofs.Decided.{accepted-facts, memory-facts}
 use Rattle.memory.proofs.Loaded.{Beyond, loaded-length, loaded-elsewhere}
 use Rattle.terminal.specs.Done.{memoryDone, done}

@@ -8,7 +8,7 @@ use Rattle.tm.specs.Frame.{Report, countsAfter}
 use Rattle.laying.specs.declared.Sender.{Sender}
 use Rattle.laying.specs.declared.Progress.{Progress}
 use Rattle.laying.specs.Lays.{octetsFor}
-use Rattle.decide.specs.declared.Work.{Work}
+use Rattle.serving.specs.declared.Work.{Work}
 use Rattle.terminal.specs.Done.{Done, done}
 use Rattle.terminal.specs.Outcome.{answerMost, reportsFor}
 

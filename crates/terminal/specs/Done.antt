@@ -6,8 +6,8 @@ use Rattle.blocks.specs.Blocks.{memoryId, blocksOf}
 use Rattle.tm.specs.Frame.{Report}
 use Rattle.requests.specs.declared.Action.{Action}
 use Rattle.requests.specs.declared.Action.the-variants.{Load, Dump, Check}
-use Rattle.decide.specs.declared.Task.{Task}
-use Rattle.decide.specs.declared.Task.the-variants.{Idle, Memory, Connection}
+use Rattle.serving.specs.declared.Task.{Task}
+use Rattle.serving.specs.declared.Task.the-variants.{Idle, Memory, Connection}
 use Rattle.requests.specs.Request.{carriedBy}
 use Rattle.memory.specs.Memory.{loaded}
 use Rattle.laying.specs.Reports.{dumped, checked, connected}

@@ -1,17 +1,17 @@
 // Acts on a decision: lays the reports due into the output buffer, one after another, and writes a load's words into the store.
-use decide::Job;
-use decide::Task;
-use decide::Work;
 use laying::Progress;
 use laying::Sender;
 use map::Area;
 use requests::Action;
+use serving::Job;
+use serving::Task;
+use serving::Work;
 ghost use mathlib.Core.Path.{_≡_};
 ghost use Prim.Native.Nat.{_≤_};
 ghost use lib.ListN.{length};
 ghost use Rattle.octets.specs.Copy.{placed};
 ghost use Rattle.requests.specs.declared.Action.the-variants.{Dump};
-ghost use Rattle.decide.specs.Table.{Formed, FormedFor};
+ghost use Rattle.serving.specs.Services.{Formed, FormedFor};
 ghost use Rattle.terminal.specs.Done.{memoryDone, done};
 ghost use Rattle.terminal.specs.Act.{echoSize, serviceMost, Did, Serves, CarriesOut};
 

@@ -12,9 +12,10 @@ use Rattle.checks.specs.declared.Verdict.{Verdict}
 use Rattle.checks.specs.Verdict.{isAccepted, silent}
 use Rattle.checks.proofs.Numbers.{silent-refuses}
 use Rattle.tc.specs.Layout.{fieldsOf, dataSpan, applicationOf}
-use Rattle.decide.specs.declared.Decision.{Decision}
-use Rattle.decide.specs.Decision.{acceptedWith}
-use Rattle.decide.specs.Table.{taskOf, FormedFor}
+use Rattle.serving.specs.declared.Decision.{Decision}
+use Rattle.serving.specs.Decision.{acceptedWith}
+use Rattle.decide.specs.Table.{taskOf}
+use Rattle.serving.specs.Services.{FormedFor}
 use Rattle.decide.proofs.Checked.{decision-decided, decision-accepted}
 use Rattle.laying.specs.Reports.{failed}
 use Rattle.terminal.specs.Outcome.{Input, input, verdictOn}

@@ -7,7 +7,7 @@ use native.Mathlib.Omega.{arith}
 use lib.ListN.{length}
 use denote.Ref.{now}
 use borrow.Author.Needs.{needs}
-use Rattle.decide.specs.Table.{FormedFor}
+use Rattle.serving.specs.Services.{FormedFor}
 use Rattle.terminal.specs.Outcome.{reportsFor}
 use Rattle.terminal.specs.Done.{done}
 use Rattle.laying.specs.Reports.{echo, asked, asksAcceptance, asksCompletion}

@@ -6,8 +6,8 @@ use Prim.Native.Nat.{ℕ}
 use lib.ListN.{length}
 use denote.Ref.{now}
 use borrow.Author.Needs.{needs}
-use Rattle.decide.specs.declared.Task.{Task}
-use Rattle.decide.specs.Table.{FormedFor}
+use Rattle.serving.specs.declared.Task.{Task}
+use Rattle.serving.specs.Services.{FormedFor}
 use Rattle.laying.specs.declared.Progress.{Progress}
 use Rattle.terminal.specs.Done.{done}
 use Rattle.terminal.specs.Act.{Serves}

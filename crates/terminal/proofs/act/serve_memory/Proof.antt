@@ -9,7 +9,7 @@ use borrow.Author.Needs.{needs}
 use Rattle.blocks.proofs.WellFormed.{head-facts}
 use Rattle.requests.specs.declared.Action.{Action}
 use Rattle.requests.specs.declared.Action.the-variants.{Check}
-use Rattle.decide.specs.Table.{Formed}
+use Rattle.serving.specs.Services.{Formed}
 use Rattle.laying.specs.declared.Progress.{Progress}
 use Rattle.terminal.specs.Done.{memoryDone}
 use Rattle.terminal.specs.Act.{Serves}

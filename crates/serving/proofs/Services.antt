@@ -1,18 +1,15 @@
--- The rows of what is asked, check by check: each refusal where its row is the first that fails, and acceptance where none does.
+-- The rows of service 6, check by check: each refusal where its row is the first that fails, and acceptance where none does.
 -- Assumes nothing.
 use mathlib.Core.Path.{_≡_, sym, ap, _∙_}
 use mathlib.Core.Bool.{true, false}
 use mathlib.Core.List.{List, [], _∷_}
-use Prim.Native.Nat.{ℕ, _+_, _*_}
+use Prim.Native.Nat.{ℕ}
 use lib.Dec.{eqb}
 use borrow.Author.Tests.{eq-eqb, ne-eqb}
 use Rattle.octets.specs.declared.copy.Span.{Span}
-use Rattle.fields.specs.Fields.{apidOf}
-use Rattle.checks.specs.declared.Check.the-variants.{Apid, Service, Subtype, Form, Memory, Right, Outside}
+use Rattle.checks.specs.declared.Check.the-variants.{Form, Memory, Right, Outside}
 use Rattle.checks.specs.Table.{answer}
 use Rattle.checks.specs.Verdict.{row}
-use Rattle.tc.specs.declared.Fields.{Fields}
-use Rattle.tc.specs.Layout.{category}
 use Rattle.map.specs.declared.Area.{Area}
 use Rattle.map.specs.declared.Profile.{Profile}
 use Rattle.map.specs.declared.Found.{Found}
@@ -22,11 +19,11 @@ use Rattle.blocks.specs.declared.Form.the-variants.{Right as WellFormed, Wrong}
 use Rattle.blocks.specs.Blocks.{memoryId, blocksOf}
 use Rattle.blocks.specs.Form.{headRight, formOf, isRight, formDetail}
 use Rattle.requests.specs.declared.Action.{Action}
-use Rattle.decide.specs.declared.Decision.{Decision}
-use Rattle.requests.specs.Request.{serves, offers, rightFor, carriedBy, mostWords, areaNamed, isFound, outsideOf}
-use Rattle.decide.specs.Decision.{acceptedWith, decidedBy}
-use Rattle.decide.specs.Table.{areaRows, memoryRows, memoryTask, askedBy, serviceRows, requestRows, areaDecision, memoryDecision, serviceDecision, requestDecision}
-use Rattle.decide.proofs.Checked.{failing, refuses, passes}
+use Rattle.serving.specs.declared.Decision.{Decision}
+use Rattle.requests.specs.Request.{rightFor, carriedBy, mostWords, areaNamed, isFound, outsideOf}
+use Rattle.serving.specs.Decision.{acceptedWith, decidedBy}
+use Rattle.serving.specs.Services.{areaRows, memoryRows, memoryTask, areaDecision, memoryDecision}
+use Rattle.serving.proofs.Rows.{failing, refuses, passes}
 
 module _ (action : Action) (ack : ℕ) («data» : Span) (d : List ℕ) where
   -- ---- 18 and 19, on an area
@@ -102,42 +99,3 @@ module _ (action : Action) (ack : ℕ) («data» : Span) (d : List ℕ) where
             shaped
             ∙ passes fine Memory (memoryId d) (isFound (areaNamed p d)) (areaRows (areaNamed p d) action d) (ap isFound named)
             ∙ ap (λ (f : Found). decidedBy (acceptedWith (memoryTask f action) ack «data») (areaRows f action d)) named
-
--- ---- 0, 3 and 4
-
-module _ (p : Profile) (f : Fields) («data» : Span) (d : List ℕ) where
-  abbrev given : Decision
-  given = acceptedWith (Rattle.decide.specs.Table.taskFor p (askedBy f) d) (f .ack) «data»
-
-  abbrev pairOf : ℕ
-  pairOf = f .kind * 256 + f .subtype
-
-  pub request-apid : (f .apid ≡ apidOf (p .pid) category → ⊥) → requestDecision p f «data» d ≡ failing Apid (f .apid)
-  unfolding requestRows
-  request-apid other =
-      refuses given Apid (f .apid) (eqb (f .apid) (apidOf (p .pid) category))
-      (row Service (f .kind) (serves (p .flags) (f .kind)) ∷ row Subtype pairOf (offers (p .flags) (askedBy f)) ∷ serviceRows p (askedBy f) d)
-      (ne-eqb _ _ other)
-
-  module _ (same : f .apid ≡ apidOf (p .pid) category) where
-    addressed : requestDecision p f «data» d
-        ≡ decidedBy given (row Service (f .kind) (serves (p .flags) (f .kind)) ∷ row Subtype pairOf (offers (p .flags) (askedBy f)) ∷ serviceRows p (askedBy f) d)
-    unfolding requestRows
-    addressed =
-        passes given Apid (f .apid) (eqb (f .apid) (apidOf (p .pid) category))
-        (row Service (f .kind) (serves (p .flags) (f .kind)) ∷ row Subtype pairOf (offers (p .flags) (askedBy f)) ∷ serviceRows p (askedBy f) d)
-        (eq-eqb _ _ same)
-
-    pub request-service : serves (p .flags) (f .kind) ≡ false → requestDecision p f «data» d ≡ failing Service (f .kind)
-    request-service wrong =
-        addressed ∙ refuses given Service (f .kind) (serves (p .flags) (f .kind)) (row Subtype pairOf (offers (p .flags) (askedBy f)) ∷ serviceRows p (askedBy f) d) wrong
-
-    module _ (served : serves (p .flags) (f .kind) ≡ true) where
-      known : requestDecision p f «data» d ≡ decidedBy given (row Subtype pairOf (offers (p .flags) (askedBy f)) ∷ serviceRows p (askedBy f) d)
-      known = addressed ∙ passes given Service (f .kind) (serves (p .flags) (f .kind)) (row Subtype pairOf (offers (p .flags) (askedBy f)) ∷ serviceRows p (askedBy f) d) served
-
-      pub request-subtype : offers (p .flags) (askedBy f) ≡ false → requestDecision p f «data» d ≡ failing Subtype pairOf
-      request-subtype wrong = known ∙ refuses given Subtype pairOf (offers (p .flags) (askedBy f)) (serviceRows p (askedBy f) d) wrong
-
-      pub request-served : offers (p .flags) (askedBy f) ≡ true → requestDecision p f «data» d ≡ serviceDecision p (askedBy f) (f .ack) «data» d
-      request-served offered = known ∙ passes given Subtype pairOf (offers (p .flags) (askedBy f)) (serviceRows p (askedBy f) d) offered

@@ -1,4 +1,4 @@
--- `decide::judge_connection` meets its contract.
+-- `serving::judge_connection` meets its contract.
 -- Assumes nothing.
 use mathlib.Core.List.{[]}
 use mathlib.Core.Path.{sym, _∙_}
@@ -6,10 +6,10 @@ use borrow.Author.Needs.{needs}
 use borrow.Author.Tests.{eq-eqb, ne-eqb}
 use Rattle.checks.specs.Table.{answer}
 use Rattle.checks.specs.declared.Check.the-variants.{Form}
-use Rattle.decide.specs.Table.{connectionRows}
-use Rattle.decide.proofs.Checked.{refuses, passes}
-use Rattle.decide.proofs.judge_connection.Statement.{statement}
-use Rattle.decide.proofs.judge_connection.Tie as tie
+use Rattle.serving.specs.Services.{connectionRows}
+use Rattle.serving.proofs.Rows.{refuses, passes}
+use Rattle.serving.proofs.judge_connection.Statement.{statement}
+use Rattle.serving.proofs.judge_connection.Tie as tie
 
 refuse-requires : tie.Need-refuse-requires
 refuse-requires c κs = search needs

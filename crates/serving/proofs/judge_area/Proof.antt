@@ -1,4 +1,4 @@
--- `decide::judge_area` meets its contract: 18 and 19 in turn.
+-- `serving::judge_area` meets its contract: 18 and 19 in turn.
 -- Assumes nothing.
 use mathlib.Core.Path.{_≡_, sym, ap, _∙_}
 use Prim.Native.Nat.{ℕ}
@@ -7,11 +7,11 @@ use Rattle.laws.proofs.Tests.{refused, passed}
 use Rattle.blocks.specs.Blocks.{blocksOf}
 use Rattle.checks.specs.declared.Check.the-variants.{Right}
 use Rattle.requests.specs.Request.{carriedBy, outsideOf}
-use Rattle.decide.proofs.Checked.{failing}
-use Rattle.decide.proofs.Serving.{area-right, area-outside, area-accepts}
+use Rattle.serving.proofs.Rows.{failing}
+use Rattle.serving.proofs.Services.{area-right, area-outside, area-accepts}
 use borrow.Author.Needs.{needs}
-use Rattle.decide.proofs.judge_area.Statement.{statement}
-use Rattle.decide.proofs.judge_area.Tie as tie
+use Rattle.serving.proofs.judge_area.Statement.{statement}
+use Rattle.serving.proofs.judge_area.Tie as tie
 
 -- the first block outside, by what a word carries
 number : (c : tie.After-first-outside)

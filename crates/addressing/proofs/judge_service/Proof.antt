@@ -1,19 +1,18 @@
--- `decide::judge_service` meets its contract: the request says whose rows they are.
+-- `addressing::judge_service` meets its contract: the request says whose rows they are.
 -- Assumes nothing.
 use mathlib.Core.List.{List}
-use mathlib.Core.Path.{_≡_, sym, ap, _∙_}
+use mathlib.Core.Path.{sym, ap, _∙_}
 use Prim.Native.Nat.{ℕ}
 use denote.Ref.{now}
 use Rattle.octets.specs.Copy.{placed}
 use Rattle.checks.specs.Table.{answer}
 use Rattle.requests.specs.declared.Asked.{Asked}
 use Rattle.requests.specs.declared.Asked.the-variants.{Known}
-use Rattle.requests.specs.declared.Request.{Request}
-use Rattle.requests.specs.declared.Request.the-variants.{Memory, Connection}
-use Rattle.decide.specs.Table.{memoryDecision, connectionDecision, serviceDecision}
+use Rattle.serving.specs.Services.{memoryDecision, connectionDecision}
+use Rattle.addressing.specs.Requested.{serviceDecision}
 use borrow.Author.Needs.{needs}
-use Rattle.decide.proofs.judge_service.Statement.{statement}
-use Rattle.decide.proofs.judge_service.Tie as tie
+use Rattle.addressing.proofs.judge_service.Statement.{statement}
+use Rattle.addressing.proofs.judge_service.Tie as tie
 
 placed-requires : tie.Need-placed-requires
 placed-requires c κs = search needs

@@ -1,4 +1,4 @@
--- `decide::judge_memory` meets its contract: 5 for the head, 5 for the blocks and 17 in turn.
+-- `serving::judge_memory` meets its contract: 5 for the head, 5 for the blocks and 17 in turn.
 -- Assumes nothing.
 use mathlib.Core.Bool.{true}
 use mathlib.Core.Path.{_≡_, sym, ap, ap₂, _∙_}
@@ -9,11 +9,11 @@ use Rattle.map.specs.Place.{findIn, used}
 use Rattle.blocks.specs.Form.{headRight, formOf}
 use Rattle.checks.specs.declared.Check.the-variants.{Memory}
 use Rattle.requests.specs.Request.{carriedBy, mostWords, areaNamed}
-use Rattle.decide.proofs.Checked.{failing}
-use Rattle.decide.proofs.Serving.{memory-head, memory-form, memory-none, memory-area}
+use Rattle.serving.proofs.Rows.{failing}
+use Rattle.serving.proofs.Services.{memory-head, memory-form, memory-none, memory-area}
 use borrow.Author.Needs.{needs}
-use Rattle.decide.proofs.judge_memory.Statement.{statement}
-use Rattle.decide.proofs.judge_memory.Tie as tie
+use Rattle.serving.proofs.judge_memory.Statement.{statement}
+use Rattle.serving.proofs.judge_memory.Tie as tie
 
 -- past the first row the head is right
 headed : (c : tie.Else1) → headRight (now (c .before .before .before .args .application)) ≡ true

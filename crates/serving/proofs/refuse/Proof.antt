@@ -1,10 +1,10 @@
--- `decide::refuse` meets its contract.
+-- `serving::refuse` meets its contract.
 -- Assumes nothing.
 use mathlib.Core.Path.{ap, _∙_}
 use borrow.Author.Needs.{needs}
-use Rattle.decide.specs.Decision.{refusedBy}
-use Rattle.decide.proofs.refuse.Statement.{statement}
-use Rattle.decide.proofs.refuse.Tie as tie
+use Rattle.serving.specs.Decision.{refusedBy}
+use Rattle.serving.proofs.refuse.Statement.{statement}
+use Rattle.serving.proofs.refuse.Tie as tie
 
 refuse-requires : tie.Need-refuse-requires
 refuse-requires c κs = search needs

@@ -1,4 +1,4 @@
--- `decide::judge_request` meets its contract: 0, 3 and 4 in turn.
+-- `addressing::judge_request` meets its contract: 0, 3 and 4 in turn.
 -- Assumes nothing.
 use mathlib.Core.Bool.{true}
 use mathlib.Core.Path.{_≡_, sym, ap, _∙_}
@@ -10,12 +10,12 @@ use Rattle.tc.specs.Layout.{category}
 use Rattle.checks.specs.declared.Check.the-variants.{Subtype}
 use Rattle.requests.specs.declared.Asked.{Asked}
 use Rattle.requests.specs.Request.{serves, offers}
-use Rattle.decide.specs.Table.{askedBy, serviceDecision}
-use Rattle.decide.proofs.Checked.{failing}
-use Rattle.decide.proofs.Serving.{request-apid, request-service, request-subtype, request-served}
+use Rattle.addressing.specs.Requested.{serviceDecision}
+use Rattle.serving.proofs.Rows.{failing}
+use Rattle.addressing.proofs.Requested.{request-apid, request-service, request-subtype, request-served}
 use borrow.Author.Needs.{needs}
-use Rattle.decide.proofs.judge_request.Statement.{statement}
-use Rattle.decide.proofs.judge_request.Tie as tie
+use Rattle.addressing.proofs.judge_request.Statement.{statement}
+use Rattle.addressing.proofs.judge_request.Tie as tie
 
 -- past check 0 the APID is the profile's
 same : (c : tie.Else1) → (let s = c .before .before .before .before .before .args in s .fields .apid ≡ apidOf (s .profile .pid) category)

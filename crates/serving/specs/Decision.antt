@@ -7,10 +7,10 @@ use Rattle.checks.specs.declared.Refusal.{Refusal}
 use Rattle.checks.specs.declared.Verdict.{Verdict}
 use Rattle.checks.specs.declared.Verdict.the-variants.{Accepted, Refused}
 use Rattle.checks.specs.Table.{Row, answer}
-use Rattle.decide.specs.declared.Task.{Task}
-use Rattle.decide.specs.declared.Task.the-variants.{Idle}
-use Rattle.decide.specs.declared.Work.{Work}
-use Rattle.decide.specs.declared.Decision.{Decision}
+use Rattle.serving.specs.declared.Task.{Task}
+use Rattle.serving.specs.declared.Task.the-variants.{Idle}
+use Rattle.serving.specs.declared.Work.{Work}
+use Rattle.serving.specs.declared.Decision.{Decision}
 
 -- The work with that task, ack and application data.
 abbrev pub work : Task → ℕ → Span → Work
