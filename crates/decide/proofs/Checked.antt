@@ -14,8 +14,8 @@ use Rattle.checks.specs.Table.{Row}
 use Rattle.checks.specs.Verdict.{isAccepted, row}
 use Rattle.checks.proofs.Table.{answer-append}
 use Rattle.tc.specs.Layout.{fieldsOf, dataSpan, applicationOf}
-use Rattle.tc.specs.declared.Reading.{Reading}
-use Rattle.tc.specs.Reader.{readerRows, judged, readingOf}
+use Rattle.reader.specs.declared.Reading.{Reading}
+use Rattle.reader.specs.Reader.{readerRows, judged, readingOf}
 use Rattle.map.specs.declared.Profile.{Profile}
 use Rattle.decide.specs.declared.State.{State}
 use Rattle.serving.specs.declared.Decision.{Decision}

@@ -15,8 +15,8 @@ use Rattle.checks.specs.Table.{AllHold}
 use Rattle.checks.proofs.Table.{all-append}
 use Rattle.checks.proofs.Verdicts.{accepted-holds, all-accept}
 use Rattle.tc.specs.Layout.{category, fieldsOf, applicationOf}
-use Rattle.tc.specs.Reader.{leastOctets, readerRows, judged, readingOf}
-use Rattle.tc.proofs.Judged.{judged-short}
+use Rattle.reader.specs.Reader.{leastOctets, readerRows, judged, readingOf}
+use Rattle.reader.proofs.Judged.{judged-short}
 use Rattle.map.specs.declared.Area.{Area}
 use Rattle.map.specs.declared.Profile.{Profile}
 use Rattle.map.specs.declared.Found.{Found}

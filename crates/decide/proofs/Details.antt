@@ -11,8 +11,8 @@ use Rattle.checks.specs.Table.{Row}
 use Rattle.checks.specs.Verdict.{detailOf}
 use Rattle.checks.proofs.Verdicts.{verdict-detail}
 use Rattle.tc.specs.Layout.{fieldsOf, applicationOf}
-use Rattle.tc.specs.Reader.{readerRows}
-use Rattle.tc.proofs.Details.{application-octets, FieldsSmall, fields-small, reader-details}
+use Rattle.reader.specs.Reader.{readerRows}
+use Rattle.reader.proofs.Details.{application-octets, FieldsSmall, fields-small, reader-details}
 use Rattle.map.specs.declared.Profile.{Profile}
 use Rattle.map.specs.declared.Found.{Found}
 use Rattle.map.specs.declared.Found.the-variants.{At, Nothing}

@@ -9,7 +9,7 @@ use Rattle.checks.specs.declared.Verdict.{Verdict}
 use Rattle.checks.specs.Table.{Row}
 use Rattle.checks.specs.Verdict.{row, verdictBy}
 use Rattle.tc.specs.Layout.{fieldsOf, dataSpan, applicationOf}
-use Rattle.tc.specs.Reader.{readerRows}
+use Rattle.reader.specs.Reader.{readerRows}
 use Rattle.map.specs.declared.Profile.{Profile}
 use Rattle.map.specs.Sound.{sound, storeAllowed}
 use Rattle.counts.specs.Counts.{inRange}

@@ -24,7 +24,7 @@ pub fn decide(profile: Profile, state: State, store: usize, out: usize, packet: 
     if !caller_right(profile, state, store) {
         return serving::refuse(Check::Caller, 0);
     }
-    let reading = tc::reader::read(packet);
+    let reading = reader::read(packet);
     let verdict = reading.verdict;
     if !checks::accepted(verdict) {
         return serving::refused(verdict);

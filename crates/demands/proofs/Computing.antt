@@ -7,7 +7,8 @@ use Rattle.octets.specs.Copy.{laid, between}
 use Rattle.crc.specs.Register.{takeBit, takeBits, crcFrom, crcOf}
 use Rattle.checks.specs.Table.{answer}
 use Rattle.tc.specs.Layout.{errorControl, fieldsOf, applicationOf, headOf, bodyOf, packetOf}
-use Rattle.tc.specs.Reader.{lengthRight, controlRight, firstFault, headerFault, readerRows}
+use Rattle.heading.specs.Heading.{lengthRight, firstFault, headerFault}
+use Rattle.reader.specs.Reader.{controlRight, readerRows}
 use Rattle.map.specs.Place.{wordOctets, findIn, inside, octetsOf, octetAt, storedAt}
 use Rattle.map.specs.Sound.{storeAllowed, areaSound, apart, pairSound, everyPair, sound}
 use Rattle.wider.specs.Wider.{keepsRights, keepsWords, covers, covered, keepsFlags, wider}

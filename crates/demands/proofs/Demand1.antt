@@ -20,7 +20,7 @@ use Rattle.checks.proofs.Numbers.{silent-numbers, silent-refuses}
 use Rattle.checks.proofs.Table.{row-passes, row-refuses, rows-end}
 use Rattle.checks.proofs.Verdicts.{first-refuses, all-accept, refused-first}
 use Rattle.tc.specs.Layout.{around, dataMost, fieldsOf, applicationOf, dataSpan}
-use Rattle.tc.specs.Reader.{readerRows, judged, noFields, readingOf}
+use Rattle.reader.specs.Reader.{readerRows, judged, noFields, readingOf}
 use Rattle.writer.specs.declared.Order.{Order}
 use Rattle.writer.specs.declared.Written.{Written}
 use Rattle.writer.specs.declared.Written.the-variants.{Packet}

@@ -3,12 +3,12 @@
 use mathlib.Core.Path.{_≡_, sym, _∙_}
 use mathlib.Core.List.{List}
 use Prim.Native.Nat.{ℕ}
-use Rattle.tc.specs.declared.Reading.{Reading}
+use Rattle.reader.specs.declared.Reading.{Reading}
 use Rattle.writer.specs.declared.Order.{Order}
 use Rattle.writer.specs.declared.Written.{Written}
 use Rattle.octets.specs.declared.copy.Span.{Span}
 use Rattle.octets.specs.Copy.{Hands}
-use Rattle.tc.specs.Reader.{Reads}
+use Rattle.reader.specs.Reader.{Reads}
 use Rattle.writer.specs.Writer.{Writes}
 use Rattle.terminal.specs.declared.Outcome.{Outcome}
 use Rattle.terminal.specs.Outcome.{Input, Answered}

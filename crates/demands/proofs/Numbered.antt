@@ -17,7 +17,7 @@ use Rattle.checks.proofs.Table.{first-row}
 use Rattle.checks.proofs.Verdicts.{refused-first}
 use Rattle.tc.specs.declared.Fields.{Fields}
 use Rattle.tc.specs.Layout.{fieldsOf, applicationOf}
-use Rattle.tc.specs.Reader.{readerRows}
+use Rattle.reader.specs.Reader.{readerRows}
 use Rattle.map.specs.declared.Profile.{Profile}
 use Rattle.wider.specs.Wider.{wider}
 use Rattle.wider.proofs.Widening.{widened}

@@ -18,7 +18,7 @@ use Rattle.checks.specs.Verdict.{checkNumber, verdictBy}
 use Rattle.checks.proofs.Table.{Beside, none, more, same-row, parting-row, beside-self, beside-append, beside-same}
 use Rattle.tc.specs.declared.Fields.{Fields}
 use Rattle.tc.specs.Layout.{category, fieldsOf, applicationOf}
-use Rattle.tc.specs.Reader.{readerRows}
+use Rattle.reader.specs.Reader.{readerRows}
 use Rattle.map.specs.declared.Flags.{Flags}
 use Rattle.map.specs.declared.Profile.{Profile}
 use Rattle.wider.specs.Wider.{wider}

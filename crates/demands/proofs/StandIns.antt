@@ -18,7 +18,7 @@ use Rattle.checks.specs.declared.Verdict.{Verdict}
 use Rattle.checks.specs.declared.Verdict.the-variants.{Accepted, Refused}
 use Rattle.checks.specs.Verdict.{isAccepted}
 use Rattle.tc.specs.Layout.{dataSpan}
-use Rattle.tc.specs.Reader.{readerRows, judged, readingOf}
+use Rattle.reader.specs.Reader.{readerRows, judged, readingOf}
 use Rattle.writer.specs.declared.Order.{Order}
 use Rattle.writer.specs.declared.Written.{Written}
 use Rattle.writer.specs.declared.Written.the-variants.{Packet, BadField, BadData, NoRoom}

@@ -16,9 +16,9 @@ use Rattle.fields.specs.Fields.{apidOf}
 use Rattle.octets.proofs.Laid.{laid-eq}
 use Rattle.tc.specs.declared.Fields.{Fields}
 use Rattle.tc.specs.Layout.{category, countMost, around, packetOf}
-use Rattle.tc.specs.Reader.{readingOf, dataRead}
+use Rattle.reader.specs.Reader.{readingOf, dataRead}
 use Rattle.tc.proofs.Laying.{packet-length}
-use Rattle.tc.proofs.RoundTrip.{Valid, packet-reads, clean-reads}
+use Rattle.reader.proofs.RoundTrip.{Valid, packet-reads, clean-reads}
 use Rattle.writer.specs.declared.Order.{Order}
 use Rattle.writer.specs.declared.Written.the-variants.{Packet}
 use Rattle.writer.specs.Writer.{fieldsFor, fieldsRight, bufferAfter}

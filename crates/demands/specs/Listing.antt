@@ -7,7 +7,7 @@ use lib.ListN.{length, replicate}
 use Rattle.crc.specs.Register.{crcOf}
 use Rattle.checks.specs.declared.Verdict.{Verdict}
 use Rattle.checks.specs.Verdict.{isAccepted, numberOf, detailOf}
-use Rattle.tc.specs.Reader.{lengthRight}
+use Rattle.heading.specs.Heading.{lengthRight}
 use Rattle.map.specs.declared.Profile.{Profile}
 use Rattle.map.specs.Made.{allFlags, areaOf, profileWith}
 use Rattle.map.specs.Place.{inside}

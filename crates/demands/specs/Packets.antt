@@ -5,9 +5,9 @@ use Prim.Native.Nat.{ℕ, _/_, _%_, _<_}
 use lib.ListN.{length}
 use Rattle.octets.specs.Copy.{placed}
 use Rattle.tc.specs.declared.Fields.{Fields}
-use Rattle.tc.specs.declared.Reading.{Reading}
+use Rattle.reader.specs.declared.Reading.{Reading}
 use Rattle.tc.specs.Layout.{category}
-use Rattle.tc.specs.Reader.{readingOf}
+use Rattle.reader.specs.Reader.{readingOf}
 use Rattle.writer.specs.declared.Order.{Order}
 use Rattle.writer.specs.declared.Written.{Written}
 use Rattle.writer.specs.Writer.{writtenOf, bufferAfter}

@@ -11,7 +11,7 @@ use Rattle.checks.specs.declared.Verdict.the-variants.{Accepted, Refused}
 use Rattle.checks.specs.Verdict.{checkNumber, isAccepted, numberOf, detailOf}
 use Rattle.checks.specs.Table.{Row, First, AllHold}
 use Rattle.tc.specs.Layout.{around, dataMost}
-use Rattle.tc.specs.Reader.{readerRows, noFields}
+use Rattle.reader.specs.Reader.{readerRows, noFields}
 use Rattle.writer.specs.declared.Order.{Order}
 use Rattle.writer.specs.declared.Written.the-variants.{Packet}
 use Rattle.writer.specs.Writer.{writtenNumber, fieldsRight, isPacket}

@@ -16,7 +16,7 @@ use Rattle.checks.specs.declared.Verdict.the-variants.{Accepted, Refused}
 use Rattle.checks.specs.Verdict.{checkNumber, numberOf, detailOf}
 use Rattle.checks.proofs.Numbers.{every-number}
 use Rattle.tc.specs.Layout.{applicationOf}
-use Rattle.tc.proofs.Details.{application-octets}
+use Rattle.reader.proofs.Details.{application-octets}
 use Rattle.map.proofs.Octets.{stored-octets}
 use Rattle.blocks.specs.Blocks.{firstPlace, memoryId, blockCount, blocksOf}
 use Rattle.blocks.proofs.Blocks.{blocks-read}

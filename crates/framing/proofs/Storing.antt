@@ -7,7 +7,7 @@ use Rattle.laws.proofs.Tests.{by-test}
 use Rattle.octets.specs.Numbers.{Octets}
 use Rattle.checks.specs.Verdict.{isAccepted}
 use Rattle.tc.specs.Layout.{applicationOf}
-use Rattle.tc.proofs.Details.{application-octets}
+use Rattle.reader.proofs.Details.{application-octets}
 use Rattle.map.specs.declared.Area.{Area}
 use Rattle.blocks.specs.Blocks.{blocksOf}
 use Rattle.requests.specs.declared.Action.{Action}

@@ -10,7 +10,7 @@ use Rattle.octets.specs.Copy.{laid, between}
 use Rattle.lines.specs.Feed.{Lent}
 use Rattle.crc.specs.Register.{crcOf}
 use Rattle.writer.specs.declared.Order.{Order}
-use Rattle.tc.specs.Reader.{readingOf, dataRead}
+use Rattle.reader.specs.Reader.{readingOf, dataRead}
 use Rattle.writer.specs.Writer.{writtenOf, bufferAfter}
 use Rattle.wider.specs.Wider.{wider}
 use Rattle.terminal.specs.declared.Outcome.{Outcome}

@@ -63,7 +63,7 @@ fn answered(s: Session, packet: &[u8], store: &mut [u8], out: &mut [u8]) -> Outc
 pub fn read(packet: &[u8], text: &mut [u8], at: usize) -> usize
     ensures { λ r. ⌜ SaysBy (readText (now (packet .entry))) at text r ⌝ }
 {
-    let reading = tc::reader::read(packet);
+    let reading = reader::read(packet);
     let v = reading.verdict;
     let verdict = answer::put_verdict(text, at, v);
     let fields = answer::put_fields(text, verdict, reading.fields);

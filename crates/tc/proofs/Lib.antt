@@ -1,4 +1,1 @@
-pub mod Judged
 pub mod Laying
-pub mod RoundTrip
-pub mod Details
