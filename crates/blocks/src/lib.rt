@@ -27,4 +27,4 @@ pub const FIRST: usize = 2;
 const HEADER: usize = 6;
 
 // The most blocks.
-const BLOCKS_MOST: u16 = 8;
+pub const BLOCKS_MOST: u16 = 8;

@@ -17,7 +17,7 @@ letterT = 0x54
 abbrev pub letterB : ℕ
 letterB = 0x42
 
--- Those that print: the terminal's answer, the output buffer, the store, the reader's and the writer's answer, the CRC, and whether a profile is wider.
+-- Those that print: the terminal's answer, the output buffer, the store, the reader's and the writer's answer, the CRC, whether a profile is wider, and the answer of the reader of frames.
 abbrev pub letterX : ℕ
 letterX = 0x58
 
@@ -38,3 +38,6 @@ letterC = 0x43
 
 abbrev pub letterV : ℕ
 letterV = 0x56
+
+abbrev pub letterF : ℕ
+letterF = 0x46

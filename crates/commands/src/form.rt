@@ -15,7 +15,7 @@ pub const GIVEN_MOST: usize = 70000;
 
 pub const LINE_MOST: usize = 140002;
 
-// The most octets of a packet at the terminal.
+// The most octets of a packet at the terminal, and of a frame.
 const PACKET_MOST: usize = 69999;
 
 // The octets of an order to the writer before its data.
@@ -98,6 +98,7 @@ fn takes(letter: u8, given: &[u8]) -> bool
         b'R' => true,
         b'W' => ORDER_OCTETS <= n,
         b'C' => true,
+        b'F' => n <= PACKET_MOST,
         _ => false,
     }
 }

@@ -8,7 +8,7 @@ use lib.Dec.{eqb, leb}
 use borrow.Author.Tests.{leb-true, le-leb, ne-eqb}
 use Rattle.laws.proofs.Tests.{by-test, both}
 use Rattle.counts.specs.declared.Counts.{Counts}
-use Rattle.counts.specs.Counts.{countMost, nextCount, categoryOf, advanced, counted, inRange}
+use Rattle.counts.specs.Counts.{countMost, nextCount, categoryOf, countIn, advanced, inRange, countFor, counted}
 
 -- Below 16,383 the next count is one more.
 pub next-of-less : (count : ℕ) → count < countMost → nextCount count ≡ count + 1
@@ -54,3 +54,17 @@ advanced-in-range c category h =
 -- A report keeps the counts in range.
 pub counted-in-range : (c : Counts) (kind : ℕ) → inRange c ≡ true → inRange (counted c kind) ≡ true
 counted-in-range c kind h = advanced-in-range c (categoryOf kind) h
+
+-- A category has 4 bits.
+pub category-small : (kind : ℕ) → categoryOf kind < 16
+unfolding categoryOf
+category-small kind = by-test (eqb kind 1) (λ t. rw t (omega arith)) (λ e. rw e (omega arith))
+
+-- The count that a report is stamped with has 14 bits, where every count has.
+pub count-small : (c : Counts) (kind : ℕ) → inRange c ≡ true → countFor c kind < 16384
+unfolding countIn inRange
+count-small c kind h =
+    let counts = both (leb (c .reports) countMost) (leb (c .services) countMost) h in
+    by-test (eqb (categoryOf kind) 1)
+    (λ t. rw t (omega (arith, leb-true (c .reports) countMost (counts .0))))
+    (λ e. rw e (omega (arith, leb-true (c .services) countMost (counts .1))))

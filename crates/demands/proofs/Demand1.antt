@@ -114,7 +114,7 @@ unknown-refused i e =
 
 -- ---- the reader
 
-none-placed : (p : List ℕ) → placed nowhere p ≡ []
+pub none-placed : (p : List ℕ) → placed nowhere p ≡ []
 none-placed p = between-front 0 p (omega arith)
 
 -- The reader refuses as the demand has it. Ruled out: one that hands back data of a refused packet.

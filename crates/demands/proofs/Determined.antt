@@ -9,6 +9,8 @@ use Rattle.writer.specs.declared.Written.{Written}
 use Rattle.octets.specs.declared.copy.Span.{Span}
 use Rattle.octets.specs.Copy.{Hands}
 use Rattle.reader.specs.Reader.{Reads}
+use Rattle.tmreader.specs.declared.Reading.{Reading as FrameReading}
+use Rattle.tmreader.specs.Reader.{Reads as FrameReads}
 use Rattle.writer.specs.Writer.{Writes}
 use Rattle.terminal.specs.declared.Outcome.{Outcome}
 use Rattle.terminal.specs.Outcome.{Input, Answered}
@@ -26,6 +28,10 @@ determined p q = p ∙ sym q
 -- The reader: verdict, fields, and where the application data stands.
 pub reader-determined : (packet : List ℕ) (r s : Reading) → Reads packet r → Reads packet s → r ≡ s
 reader-determined packet r s p q = determined p q
+
+-- The reader of frames: verdict, stamp, where the source data stands, and what is told.
+pub frames-determined : (frame : List ℕ) (r s : FrameReading) → FrameReads frame r → FrameReads frame s → r ≡ s
+frames-determined frame r s p q = determined p q
 
 -- The data part: its octets.
 pub part-determined : (part : Span) (packet r s : List ℕ) → Hands part packet r → Hands part packet s → r ≡ s

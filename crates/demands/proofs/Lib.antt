@@ -14,3 +14,4 @@ pub mod Rows
 pub mod StandIns
 pub mod Trips
 pub mod Widened
+pub mod Telemetry

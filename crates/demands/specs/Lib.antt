@@ -8,3 +8,4 @@ pub mod StandIns
 pub mod Cases
 pub mod Listing
 pub mod Parting
+pub mod Telemetry

@@ -1,5 +1,6 @@
 // The fields of a packet's headers, taken apart and put together by shifts and masks; the contracts say the same in division and remainder.
 ghost use mathlib.Core.Path.{_≡_};
+ghost use Rattle.octets.specs.Numbers.{word16};
 ghost use Rattle.fields.specs.Fields.{packetId, idOf, sequence, controlOf, header, headerOf, apidOf};
 
 // A packet ID's fields: version 3 bits, type 1 bit, data field header flag 1 bit, APID 11 bits.
@@ -34,6 +35,13 @@ pub fn split_id(id: u16) -> PacketId
     }
 }
 
+// The fields of the packet ID that a packet begins with; octets past its end count as 0, here and below.
+pub fn id_of(packet: &[u8]) -> PacketId
+    ensures { λ r. ⌜ r ≡ packetId (word16 (now (packet .entry)) 0) ⌝ }
+{
+    split_id(octets::numbers::word16_at(packet, 0))
+}
+
 pub fn join_id(f: PacketId) -> u16
     ensures { λ r. ⌜ r ≡ idOf f ⌝ }
 {
@@ -47,6 +55,13 @@ pub fn split_sequence(control: u16) -> Sequence
         flags: control >> 14,
         count: control & 0x3FFF,
     }
+}
+
+// The fields of the sequence control behind it.
+pub fn sequence_of(packet: &[u8]) -> Sequence
+    ensures { λ r. ⌜ r ≡ sequence (word16 (now (packet .entry)) 2) ⌝ }
+{
+    split_sequence(octets::numbers::word16_at(packet, 2))
 }
 
 pub fn join_sequence(f: Sequence) -> u16

@@ -2,3 +2,5 @@ pub mod Reports
 pub mod Sources
 pub mod Frames
 pub mod Storing
+pub mod Telling
+pub mod Reading

@@ -38,7 +38,7 @@ use Rattle.framing.proofs.Reports.{OfService, due-each}
 -- ---- octets
 
 -- The number of a verdict has 16 bits.
-number-small : (v : Verdict) → numberOf v < 65536
+pub number-small : (v : Verdict) → numberOf v < 65536
 unfolding every
 number-small Accepted = omega arith
 number-small (Refused r) = omega (arith, leb-true (checkNumber (r .check)) 65535 (every-number (λ (n : ℕ). leb n 65535) refl (r .check)))

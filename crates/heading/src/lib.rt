@@ -39,8 +39,8 @@ pub fn length_right(p: &[u8]) -> bool
 pub fn header_fault(p: &[u8]) -> u16
     ensures { λ r. ⌜ r ≡ headerFault (now (p .entry)) ⌝ }
 {
-    let id = tc::places::id_of(p);
-    let control = tc::places::sequence_of(p);
+    let id = fields::id_of(p);
+    let control = fields::sequence_of(p);
     let head = tc::places::header_of(p);
     first_fault(id, control, head)
 }

@@ -10,7 +10,7 @@ use lib.ListN.{length}
 use borrow.Author.Tests.{leb-true, leb-false}
 use Rattle.octets.specs.Numbers.{Octets}
 use Rattle.octets.specs.Copy.{laid, between}
-use Rattle.octets.proofs.Between.{between-most}
+use Rattle.octets.proofs.Between.{between-length, between-most}
 use Rattle.octets.proofs.Laid.{laid-read}
 use Rattle.octets.proofs.Octets.{between-octets}
 use Rattle.map.specs.declared.Area.{Area}
@@ -149,3 +149,14 @@ stored-laid a store start words s long room =
 pub stored-octets : (a : Area) (store : List ℕ) (start words : ℕ) → Octets store → Octets (storedAt a store start words)
 unfolding storedAt
 stored-octets a store start words h = between-octets _ _ store h
+
+-- So many octets the words of a dump are at the most.
+pub dump-words : (words : ℕ) → words ≤ dumpWords → words * wordOctets ≤ dumpOctets
+unfolding wordOctets
+dump-words words h = omega arith
+
+-- Words that lie in the store are so many octets.
+pub stored-length : (a : Area) (store : List ℕ) (start words : ℕ) → octetAt a start + octetsOf a words ≤ length store
+    → length (storedAt a store start words) ≡ octetsOf a words
+unfolding storedAt
+stored-length a store start words h = between-length (octetAt a start) (octetAt a start + octetsOf a words) store (omega arith) h ∙ omega arith

@@ -46,7 +46,7 @@ take-octets zero s h = octets-of [] tt
 take-octets (suc n) [] h = octets-of [] tt
 take-octets (suc n) (x ∷ s) h = one-more x (take n s) (h 0) (take-octets n s (λ k. h (suc k)))
 
-drop-octets : (n : ℕ) (s : List ℕ) → Octets s → Octets (drop n s)
+pub drop-octets : (n : ℕ) (s : List ℕ) → Octets s → Octets (drop n s)
 drop-octets n s h k = rw (getD-drop n s k 0) (h (n + k))
 
 -- So is a part of one.

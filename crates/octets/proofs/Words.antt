@@ -7,7 +7,7 @@ use native.Mathlib.Nat.{add-zero}
 use native.Mathlib.Omega.{arith}
 use lib.ListN.{length, take, drop, List·getD-eq-default}
 use lib.Seq.{getD-append-seam, getD-append-add, drop-cons, take-at, take-all}
-use Rattle.octets.specs.Numbers.{octet, word16, word32, octets16}
+use Rattle.octets.specs.Numbers.{Octets, octet, word16, word32, octets16, octets32}
 
 pub octet-past : (s : List ℕ) (at : ℕ) → length s ≤ at → octet s at ≡ 0
 octet-past s at h = List·getD-eq-default s 0 h
@@ -32,6 +32,15 @@ octets16-of-word16 s at h l =
     let high : word16 s at / 256 ≡ octet s at = omega arith in
     let low : word16 s at % 256 ≡ octet s (at + 1) = omega arith in
     ap₂ (λ (a b : ℕ). a ∷ b ∷ []) high low
+
+-- The same of 32 bits.
+pub octets32-of-word32 : (s : List ℕ) (at : ℕ) → Octets s → octets32 (word32 s at) ≡ octet s at ∷ octet s (at + 1) ∷ octet s (at + 2) ∷ octet s (at + 2 + 1) ∷ []
+octets32-of-word32 s at o =
+    let first : word32 s at / 16777216 ≡ octet s at = omega (arith, o at, o (at + 1), o (at + 2), o (at + 2 + 1)) in
+    let second : word32 s at / 65536 % 256 ≡ octet s (at + 1) = omega (arith, o at, o (at + 1), o (at + 2), o (at + 2 + 1)) in
+    let third : word32 s at / 256 % 256 ≡ octet s (at + 2) = omega (arith, o at, o (at + 1), o (at + 2), o (at + 2 + 1)) in
+    let fourth : word32 s at % 256 ≡ octet s (at + 2 + 1) = omega (arith, o at, o (at + 1), o (at + 2), o (at + 2 + 1)) in
+    λ i. first i ∷ second i ∷ third i ∷ fourth i ∷ []
 
 -- So many octets from a place on.
 unfoldable pub run : List ℕ → ℕ → ℕ → List ℕ

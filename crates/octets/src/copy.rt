@@ -1,7 +1,7 @@
 // Copying octets into a buffer, and a part of a slice.
 ghost use mathlib.Core.Path.{_≡_};
 ghost use Prim.Native.Nat.{_-_, min};
-ghost use lib.ListN.{length};
+ghost use lib.ListN.{length, drop};
 ghost use Rattle.octets.specs.Copy.{laid, between, Hands};
 
 // A part of a slice, by the places where it begins and ends.
@@ -55,4 +55,14 @@ pub fn placed(s: &[u8], p: Span) -> &[u8]
     ensures { λ r. ⌜ Hands p (now (s .entry)) (now r) ⌝ }
 {
     part(s, p.from, p.to)
+}
+
+// What stands behind so many octets of a slice, and nothing where it has no more.
+pub fn behind(s: &[u8], count: usize) -> &[u8]
+    ensures { λ r. ⌜ now r ≡ drop count (now (s .entry)) ⌝ }
+{
+    if s.len() < count {
+        return &s[..0];
+    }
+    &s[count..]
 }

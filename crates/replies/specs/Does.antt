@@ -5,10 +5,11 @@ use Prim.Native.Nat.{ℕ}
 use lib.ListN.{length}
 use lib.Dec.{eqb}
 use Rattle.octets.specs.Copy.{laid}
-use Rattle.commands.specs.Letters.{letterP, letterS, letterK, letterT, letterB, letterX, letterO, letterM, letterR, letterW, letterC, letterV}
+use Rattle.commands.specs.Letters.{letterP, letterS, letterK, letterT, letterB, letterX, letterO, letterM, letterR, letterW, letterC, letterV, letterF}
 use Rattle.commands.specs.declared.session.Session.{Session}
 use Rattle.commands.specs.Session.{withProfile, withState, withTime, withStored, withRoom, profileIn, stateIn, timeIn, filling}
 use Rattle.saying.specs.Text.{lineOf}
+use Rattle.fieldtext.specs.Fields.{readText as frameText}
 use Rattle.showing.specs.Shows.{Bench, Does, storeNow, outNow, answering, readText, writeText, controlText, widerText}
 
 -- The answer to a bad line.
@@ -37,4 +38,5 @@ does letter b given =
     (cond (eqb letter letterW) (printing b (writeText given))
     (cond (eqb letter letterC) (printing b (controlText given))
     (cond (eqb letter letterV) (printing b (widerText (b .session) given))
-    (printing b badText))))))))))))
+    (cond (eqb letter letterF) (printing b (frameText given))
+    (printing b badText)))))))))))))

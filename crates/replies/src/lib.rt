@@ -64,6 +64,7 @@ fn act(
         b'W' => gives(s, showing::write(given, text, at)),
         b'C' => gives(s, showing::control(given, text, at)),
         b'V' => gives(s, showing::wider(s, given, text, at)),
+        b'F' => gives(s, fieldtext::put_read(given, text, at)),
         _ => gives(s, refuse(text, at)),
     }
 }

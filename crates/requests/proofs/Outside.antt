@@ -1,9 +1,15 @@
--- The number of the first block outside an area.
+-- The number of the first block outside an area, and blocks that are all inside.
 -- Assumes nothing.
+use mathlib.Core.Path.{_≡_}
+use mathlib.Core.Bool.{true}
 use mathlib.Core.List.{List}
 use Prim.Native.Nat.{ℕ, _<_}
+use native.Mathlib.Omega.{arith}
+use Rattle.laws.specs.Each.{Each}
+use Rattle.laws.proofs.First.{none-each}
 use Rattle.octets.specs.Numbers.{Octets}
 use Rattle.map.specs.declared.Area.{Area}
+use Rattle.blocks.specs.declared.Block.{Block}
 use Rattle.blocks.specs.Blocks.{blocksOf}
 use Rattle.blocks.proofs.Octets.{number-small}
 use Rattle.requests.specs.Request.{insideOf, outsideOf}
@@ -12,3 +18,8 @@ use Rattle.requests.specs.Request.{insideOf, outsideOf}
 pub outside-small : (a : Area) (carried : ℕ) (d : List ℕ) → Octets d → outsideOf a (blocksOf carried d) < 65536
 unfolding outsideOf
 outside-small a carried d h = number-small d h carried (insideOf a)
+
+-- Where no block is outside an area, each is inside.
+pub all-inside : (a : Area) (blocks : List Block) → outsideOf a blocks ≡ 0 → Each (λ (b : Block). insideOf a b ≡ true) blocks
+unfolding outsideOf
+all-inside a blocks none = none-each (insideOf a) blocks 1 (omega arith) none

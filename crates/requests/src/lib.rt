@@ -33,7 +33,7 @@ const MEMORY: u8 = 6;
 const CONNECTION: u8 = 17;
 
 // The most words of a block of a dump, and of any other, as many as its field can say.
-const DUMP_MOST: u16 = 240;
+pub const DUMP_MOST: u16 = 240;
 
 const FIELD_MOST: u16 = 65535;
 

@@ -1,4 +1,4 @@
-// What the programs over lines do with a line: the line program, the reader of unit files, `pack` and `judge`.
+// What the programs over lines do with a line: the line program, the reader of unit files, `pack`, `judge` and `frames`.
 use desk::Desk;
 use desk::Done;
 ghost use mathlib.Core.Path.{_≡_};
@@ -12,6 +12,7 @@ pub enum Task {
     Unit,
     Pack,
     Judge,
+    Frames,
 }
 
 // The line program's answer to a line.
@@ -51,6 +52,10 @@ pub fn answer(
         Task::Unit => desk::nothing(unitstep::unit_desk(d, line, store), text, at),
         Task::Pack => packstep::pack_answer(d, line, store, out, text, at),
         Task::Judge => judgestep::judge_answer(d, line, store, out, text, at),
+        Task::Frames => Done {
+            at: frameline::answer(line, text, at),
+            desk: d,
+        },
     }
 }
 
@@ -67,5 +72,9 @@ pub fn answer_long(task: Task, d: Desk, text: &mut [u8], at: usize) -> Done
         Task::Unit => desk::nothing(unitstep::unit_long(d), text, at),
         Task::Pack => packstep::pack_long(d, text, at),
         Task::Judge => judgestep::judge_long(d, text, at),
+        Task::Frames => Done {
+            at: frametext::put_bad(text, at),
+            desk: d,
+        },
     }
 }

@@ -2,13 +2,11 @@
 use crate::Fields;
 use crate::HEAD;
 use fields::Header;
-use fields::PacketId;
-use fields::Sequence;
 use octets::copy::Span;
 ghost use mathlib.Core.Path.{_≡_};
 ghost use Prim.Native.Nat.{_-_};
-ghost use Rattle.octets.specs.Numbers.{octet, word16};
-ghost use Rattle.fields.specs.Fields.{packetId, sequence, header};
+ghost use Rattle.octets.specs.Numbers.{octet};
+ghost use Rattle.fields.specs.Fields.{header};
 ghost use Rattle.tc.specs.Layout.{errorControl, covered, fieldsOf, dataSpan};
 
 // Where the application data stands: from octet 10 up to the error control.
@@ -35,21 +33,7 @@ pub fn control(p: &[u8]) -> u16
     crate::error_control(octets::copy::part(p, 0, control_at(p.len())))
 }
 
-// The packet ID's fields; octets past the end count as 0, here and below.
-pub fn id_of(p: &[u8]) -> PacketId
-    ensures { λ r. ⌜ r ≡ packetId (word16 (now (p .entry)) 0) ⌝ }
-{
-    fields::split_id(octets::numbers::word16_at(p, 0))
-}
-
-// The sequence control's fields.
-pub fn sequence_of(p: &[u8]) -> Sequence
-    ensures { λ r. ⌜ r ≡ sequence (word16 (now (p .entry)) 2) ⌝ }
-{
-    fields::split_sequence(octets::numbers::word16_at(p, 2))
-}
-
-// The fields of the first octet of the data field header.
+// The fields of the first octet of the data field header; octets past the end count as 0, here and below.
 pub fn header_of(p: &[u8]) -> Header
     ensures { λ r. ⌜ r ≡ header (octet (now (p .entry)) 6) ⌝ }
 {
@@ -60,8 +44,8 @@ pub fn header_of(p: &[u8]) -> Header
 pub fn fields(p: &[u8]) -> Fields
     ensures { λ r. ⌜ r ≡ fieldsOf (now (p .entry)) ⌝ }
 {
-    let id = id_of(p);
-    let control = sequence_of(p);
+    let id = fields::id_of(p);
+    let control = fields::sequence_of(p);
     let head = header_of(p);
     Fields {
         apid: id.apid,

@@ -15,7 +15,7 @@ use Rattle.laws.proofs.Order.{by-order}
 use Rattle.counts.specs.declared.Counts.{Counts}
 use Rattle.counts.specs.Counts.{countFor, counted, inRange}
 use Rattle.counts.proofs.Counting.{counted-in-range}
-use Rattle.tm.specs.Frame.{Report, frameHead, stamped, framesOf, countsAfter, timed, frameSize, cutFrames, cut}
+use Rattle.tm.specs.Frame.{Report, frameHead, frameOf, stamped, framesOf, countsAfter, timed, frameSize, cutFrames, cut}
 use Rattle.tm.proofs.Frame.{frame-length, frame-size, frame-timed}
 
 -- ---- reports in two runs
@@ -39,6 +39,22 @@ module _ (pid : ℕ) (time : List ℕ) where
   pub one-frame : (c : Counts) (r : Report) → joined (framesOf pid time c (r ∷ [])) ≡ stamped pid time c r
   unfolding framesOf joined
   one-frame c r = append-nil (stamped pid time c r)
+
+-- ---- frame by frame
+
+module _ (pid : ℕ) (time : List ℕ) where
+  pub frames-none : (c : Counts) → framesOf pid time c [] ≡ []
+  unfolding framesOf
+  frames-none c = refl
+
+  pub frames-next : (c : Counts) (r : Report) (rest : List Report) → framesOf pid time c (r ∷ rest) ≡ stamped pid time c r ∷ framesOf pid time (counted c (r .kind)) rest
+  unfolding framesOf
+  frames-next c r rest = refl
+
+  pub stamped-is : (c : Counts) (r : Report)
+      → stamped pid time c r ≡ frameOf (record { pid = pid; count = countFor c (r .kind); time = time; kind = r .kind; subtype = r .subtype }) (r .source)
+  unfolding stamped
+  stamped-is c r = refl
 
 -- ---- how many octets
 

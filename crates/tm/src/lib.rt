@@ -15,7 +15,7 @@ pub const TIME_FIRST: usize = 6;
 pub const TIME_END: usize = 12;
 
 // What the length field leaves out of a frame's octets.
-const UNCOUNTED: usize = 7;
+pub const UNCOUNTED: usize = 7;
 
 // How many values a field of 16 bits has.
 const FIELD: usize = 65536;

@@ -1,4 +1,4 @@
-//! The program `cases`: the whole terminal, reader and writer for lines of text.
+//! The program `cases`: the whole terminal, the readers and the writer for lines of text.
 
 use std::io::{self, Read, Write};
 
@@ -8,6 +8,7 @@ use crate::hexline;
 use crate::lines;
 use crate::map::{Area, Flags, Profile, Rights, AREA_PLACES};
 use crate::tc::{self, Order, Telecommand};
+use crate::telemetry;
 use crate::terminal;
 use crate::tm::Counts;
 
@@ -17,6 +18,7 @@ pub const LONGEST_LINE: usize = 2 + MOST_DIGITS;
 const MOST_STORE_OCTETS: usize = 65_600;
 const MOST_BUFFER_OCTETS: usize = 8_192;
 const MOST_PACKET_OCTETS: usize = 69_999;
+const MOST_FRAME_OCTETS: usize = 69_999;
 const ROOM_FILL: u8 = 0xEE;
 
 /// One line, read. The letters stand beside them.
@@ -44,6 +46,8 @@ pub enum Command {
     ReadPacket(Vec<u8>),
     /// W
     WritePacket(WriteFields),
+    /// F
+    ReadFrame(Vec<u8>),
     /// C
     Crc(Vec<u8>),
 }
@@ -108,6 +112,7 @@ fn with_octets(letter: u8, octets: Vec<u8>) -> Option<Command> {
         b'X' if octets.len() <= MOST_PACKET_OCTETS => Some(Command::Answer(octets)),
         b'R' => Some(Command::ReadPacket(octets)),
         b'W' => write_fields(&octets).map(Command::WritePacket),
+        b'F' if octets.len() <= MOST_FRAME_OCTETS => Some(Command::ReadFrame(octets)),
         b'C' => Some(Command::Crc(octets)),
         _ => None,
     }
@@ -200,6 +205,7 @@ impl State {
             Command::ShowStore => print(&[&self.store], text),
             Command::ReadPacket(packet) => read_packet(&packet, text),
             Command::WritePacket(fields) => write_packet(&fields, text),
+            Command::ReadFrame(frame) => read_frame(&frame, text),
             Command::Crc(octets) => print(&[&crc(&octets).to_be_bytes()], text),
         }
     }
@@ -258,6 +264,25 @@ fn write_packet(fields: &WriteFields, text: &mut Vec<u8>) {
         Err(number) => ([1, number], 0),
     };
     print(&[&closing, &(length as u16).to_be_bytes(), &room], text);
+}
+
+/// Refused, all fields are 0 and there is no source data.
+fn read_frame(frame: &[u8], text: &mut Vec<u8>) {
+    match telemetry::read(frame) {
+        Ok(read) => print(
+            &[
+                &[0, 0],
+                &read.apid.to_be_bytes(),
+                &read.count.to_be_bytes(),
+                &read.time,
+                &[read.service],
+                &[read.subtype],
+                read.source_data,
+            ],
+            text,
+        ),
+        Err(number) => print(&[&[1, number], &[0; 2], &[0; 2], &[0; 6], &[0], &[0], &[]], text),
+    }
 }
 
 /// One line: the parts in upper case with single spaces between.

@@ -9,7 +9,7 @@ use crate::map::{Area, Flags, Profile, Rights};
 use crate::terminal;
 use crate::tm::Counts;
 
-const MOST_DIGITS: usize = 4_096;
+pub const MOST_DIGITS: usize = 4_096;
 pub const STORE_OCTETS: usize = 128;
 pub const OUTPUT_OCTETS: usize = 4_096;
 pub const TIME: [u8; 6] = [0; 6];

@@ -65,15 +65,16 @@ pub fn is_option(argument: &OsStr) -> bool {
 /// Runs a stream program over the input its arguments name.
 pub fn run(serve: fn(&mut dyn Read, &mut dyn Write) -> io::Result<()>) -> ExitCode {
     let arguments: Vec<_> = env::args_os().skip(1).collect();
-    let mut input: Box<dyn Read> = match arguments.as_slice() {
-        [] => Box::new(io::stdin().lock()),
-        [path] => match File::open(path) {
-            Ok(file) => Box::new(file),
-            Err(error) => return fail(&format!("{}: {error}", path.to_string_lossy())),
-        },
-        _ => return fail("give no argument or one file"),
+    let opened = match arguments.as_slice() {
+        [] => Input::open(OsStr::new(STANDARD_INPUT)),
+        [option] if is_option(option) => Err(format!("unknown option {}", option.to_string_lossy())),
+        [path] => Input::open(path),
+        _ => Err("give no argument or one file".into()),
     };
-    finish(serve(&mut input, &mut io::stdout().lock()))
+    match opened {
+        Ok(mut input) => finish(serve(&mut input, &mut io::stdout().lock())),
+        Err(message) => fail(&message),
+    }
 }
 
 /// A closed output ends a program quietly; any other trouble is said.

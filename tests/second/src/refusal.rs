@@ -19,6 +19,12 @@ pub const WRITE_FIELD: u8 = 50;
 pub const WRITE_DATA: u8 = 51;
 pub const WRITE_BUFFER: u8 = 52;
 
+/// The reader of frames' own numbers, in checking order.
+pub const FRAME_LENGTH: u8 = 60;
+pub const FRAME_HEADER: u8 = 61;
+pub const FRAME_TYPE: u8 = 62;
+pub const FRAME_SOURCE_DATA: u8 = 63;
+
 /// The number of the first check that fails and its detail, 0 for none.
 #[derive(Clone, Copy, Debug, PartialEq, Eq)]
 pub struct Refusal {

@@ -5,11 +5,13 @@ use crate::tc::apid;
 
 pub const HEADER_OCTETS: usize = 16;
 /// Counts have 14 bits: 16,383 is followed by 0.
-const COUNTS: u16 = 16_384;
+pub const COUNTS: u16 = 16_384;
 /// Version 0, type 0, data field header flag 1.
-const PACKET_ID: u16 = 0x0800;
-const SEQUENCE_FLAGS: u16 = 0xC000;
-const LENGTH_FIELD_OFFSET: usize = 7;
+pub const PACKET_ID: u16 = 0x0800;
+/// Both ones.
+pub const SEQUENCE_FLAGS: u16 = 0xC000;
+/// Total octets are the length field plus this.
+pub const LENGTH_FIELD_OFFSET: usize = 7;
 
 /// The next count of category 1 (service 1) and of category 9 (services 6 and 17).
 #[derive(Clone, Copy, Debug, Default, PartialEq, Eq)]

@@ -569,8 +569,11 @@ fn bad_lines() {
         format!("V 050F01{area}\r"),
         format!("V 050F01{}G", &area[..27]),
         "V 05 0F 00".into(),
-        // Letters of wishes that have not landed.
-        "F 00".into(),
+        "F".into(),
+        "F00".into(),
+        "f 00".into(),
+        "F 0".into(),
+        // A letter of a wish that has not landed.
         "D FFFF00".into(),
     ];
     let unchanged = run(format!("{GOOD}M\nO\n"));

@@ -5,7 +5,7 @@ use std::fs;
 use std::io::{self, Read, Write};
 use std::path::Path;
 
-use second::{cases, hexline};
+use second::{cases, frames, hexline};
 
 fn check(program: &str, run: fn(&mut dyn Read, &mut dyn Write) -> io::Result<()>, lines: usize) {
     let folder = Path::new(env!("CARGO_MANIFEST_DIR")).join("../../crates").join(program);
@@ -25,4 +25,9 @@ fn of_line() {
 #[test]
 fn of_cases() {
     check("cases", cases::run, 1_000);
+}
+
+#[test]
+fn of_frames() {
+    check("frames", frames::run, 1_000);
 }

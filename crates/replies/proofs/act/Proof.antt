@@ -113,11 +113,17 @@ wider-requires c κs = search needs
 gives-requires-11 : tie.Need-gives-requires-11
 gives-requires-11 c κs = search needs
 
-refuse-requires : tie.Need-refuse-requires
-refuse-requires c κs = search needs
+put-read-requires : tie.Need-put-read-requires
+put-read-requires c κs = search needs
 
 gives-requires-12 : tie.Need-gives-requires-12
 gives-requires-12 c κs = search needs
+
+refuse-requires : tie.Need-refuse-requires
+refuse-requires c κs = search needs
+
+gives-requires-13 : tie.Need-gives-requires-13
+gives-requires-13 c κs = search needs
 
 same-length : tie.Need-same-length
 same-length c = search needs
@@ -267,8 +273,19 @@ unfolding does
 returns-13 c =
     let f = c .before .before .before in
     let k = f .before .before in
+    meets (k .before .before .before .before .before) (rw (k .match .keys13) refl) (prints (c .gives12 .ensures) (f .put-read .ensures))
+
+same-length-20 : tie.Need-same-length-20
+same-length-20 c = search needs
+
+returns-14 : tie.Need-returns-14
+unfolding does
+returns-14 c =
+    let f = c .before .before .before in
+    let k = f .before .before in
     meets (k .before .before .before .before .before)
     (simp (
+      ne-eqb _ _ (k .match .rest .0 .0 .0 .0 .0 .0 .0 .0 .0 .0 .0 .0 .1),
       ne-eqb _ _ (k .match .rest .0 .0 .0 .0 .0 .0 .0 .0 .0 .0 .0 .1),
       ne-eqb _ _ (k .match .rest .0 .0 .0 .0 .0 .0 .0 .0 .0 .0 .1),
       ne-eqb _ _ (k .match .rest .0 .0 .0 .0 .0 .0 .0 .0 .0 .1),
@@ -282,7 +299,7 @@ returns-13 c =
       ne-eqb _ _ (k .match .rest .0 .1),
       ne-eqb _ _ (k .match .rest .1),
     ))
-    (prints (c .gives12 .ensures) (f .refuse .ensures))
+    (prints (c .gives13 .ensures) (f .refuse .ensures))
 
 pub act-spec : {M : Type 1} → statement M
 act-spec =
@@ -318,8 +335,10 @@ act-spec =
     gives-requires-10
     wider-requires
     gives-requires-11
-    refuse-requires
+    put-read-requires
     gives-requires-12
+    refuse-requires
+    gives-requires-13
     same-length
     returns
     same-length-2
@@ -351,4 +370,6 @@ act-spec =
     same-length-18
     returns-12
     same-length-19
-    returns-13)
+    returns-13
+    same-length-20
+    returns-14)

@@ -33,6 +33,12 @@ enum-told-4 c = search needs
 judge-answer-requires : tie.Need-judge-answer-requires
 judge-answer-requires c κs = search needs
 
+enum-told-5 : tie.Need-enum-told-5
+enum-told-5 c = search needs
+
+answer-requires : tie.Need-answer-requires
+answer-requires c κs = search needs
+
 same-length : tie.Need-same-length
 same-length c = search needs
 
@@ -87,6 +93,14 @@ returns-4 c =
     let k = c .before .before .before .before .before .before in
     rw (k .before .before .before .before .enum-told4 .given .1) (k .judge-answer .ensures)
 
+same-length-12 : tie.Need-same-length-12
+same-length-12 c = search needs
+
+returns-5 : tie.Need-returns-5
+returns-5 c =
+    let k = c .before .before in
+    rw (k .before .before .enum-told5 .given .1) (record { says = k .answer .ensures; desk-is = refl; store-is = refl; out-is = refl })
+
 pub answer-spec : {M : Type 1} → statement M
 answer-spec =
     tie.close
@@ -100,6 +114,8 @@ answer-spec =
     pack-answer-requires
     enum-told-4
     judge-answer-requires
+    enum-told-5
+    answer-requires
     same-length
     same-length-2
     same-length-3
@@ -114,4 +130,6 @@ answer-spec =
     same-length-9
     same-length-10
     same-length-11
-    returns-4)
+    returns-4
+    same-length-12
+    returns-5)

@@ -33,6 +33,12 @@ enum-told-4 c = search needs
 judge-long-requires : tie.Need-judge-long-requires
 judge-long-requires c κs = search needs
 
+enum-told-5 : tie.Need-enum-told-5
+enum-told-5 c = search needs
+
+put-bad-requires : tie.Need-put-bad-requires
+put-bad-requires c κs = search needs
+
 same-length : tie.Need-same-length
 same-length c = search needs
 
@@ -65,6 +71,14 @@ returns-4 c =
     let k = c .before .before in
     rw (k .before .before .enum-told4 .given .1) (k .judge-long .ensures)
 
+same-length-5 : tie.Need-same-length-5
+same-length-5 c = search needs
+
+returns-5 : tie.Need-returns-5
+returns-5 c =
+    let k = c .before .before in
+    rw (k .before .before .enum-told5 .given .1) (k .put-bad .ensures, refl)
+
 pub answer-long-spec : {M : Type 1} → statement M
 answer-long-spec =
     tie.close
@@ -78,6 +92,8 @@ answer-long-spec =
     pack-long-requires
     enum-told-4
     judge-long-requires
+    enum-told-5
+    put-bad-requires
     same-length
     returns
     same-length-2
@@ -85,4 +101,6 @@ answer-long-spec =
     same-length-3
     returns-3
     same-length-4
-    returns-4)
+    returns-4
+    same-length-5
+    returns-5)

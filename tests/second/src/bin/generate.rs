@@ -1,18 +1,23 @@
 //! `generate SEED PACKETS` writes input for `cases`: maps, stores, counts, times and buffers of
-//! every kind, and under them packets, other commands and bad lines.
+//! every kind, and under them packets, frames, other commands and bad lines.
 
 use std::io::{self, BufWriter, Write};
 use std::process::ExitCode;
 
+use second::frame_causes::Aims;
 use second::hex;
 use second::map::{Area, Flags, Profile, Rights, AREA_PLACES};
 use second::program;
 use second::random::Random;
 use second::sample;
+use second::sample_frame;
 use second::sample_map::{self, Map, CLAUSES};
 use second::sample_wider;
 
 const LONG_PACKETS: [usize; 3] = [65_535, 65_536, 69_999];
+/// The longest that a length field can announce, one whose length field would be right if it wrapped, the longest that
+/// a line takes, and one that makes the line bad.
+const LONG_FRAMES: [usize; 4] = [65_542, 65_543, 69_999, 70_000];
 /// Stores above this many octets are seldom shown.
 const SMALL_STORE: usize = 1_024;
 
@@ -26,6 +31,10 @@ struct Generator<W: Write> {
     /// The profile that stands, and the octets of the store.
     standing: Profile,
     store_octets: usize,
+    /// What frames are to be refused for, and how many of the others there are already.
+    aims: Aims,
+    clean_frames: usize,
+    swept_frames: usize,
 }
 
 fn main() -> ExitCode {
@@ -41,12 +50,15 @@ fn main() -> ExitCode {
         next_long_packet: 200,
         standing: second::hexline::profile(),
         store_octets: 128,
+        aims: Aims::new(),
+        clean_frames: 0,
+        swept_frames: 0,
     };
     program::finish(generator.run())
 }
 
 impl<W: Write> Generator<W> {
-    /// Episodes until there are packets enough; the last line has no newline.
+    /// Episodes until there are packets enough, then a frame of no octets; the last line has no newline.
     fn run(&mut self) -> io::Result<()> {
         let mut episode = 0;
         while self.packets < self.wanted {
@@ -64,7 +76,7 @@ impl<W: Write> Generator<W> {
             }
             episode += 1;
         }
-        self.output.write_all(b"C 0000")?;
+        self.output.write_all(b"F \nC 0000")?;
         self.output.flush()
     }
 
@@ -252,6 +264,7 @@ impl<W: Write> Generator<W> {
         for _ in 0..count {
             self.any_packet(profile)?;
             self.perhaps_ask()?;
+            self.perhaps_read_frame()?;
             self.among_packets(profile)?;
         }
         self.line(b"M", None)
@@ -274,6 +287,25 @@ impl<W: Write> Generator<W> {
         self.ask(&profile)
     }
 
+    /// Has a frame read now and then: mostly the causes of refusal and their pairs in turn.
+    fn perhaps_read_frame(&mut self) -> io::Result<()> {
+        let frame = match self.random.below(60) {
+            0..=5 => sample_frame::with_causes(&mut self.random, &self.aims.next_aim()),
+            6 | 7 => {
+                self.clean_frames += 1;
+                sample_frame::clean(&mut self.random, self.clean_frames)
+            }
+            8 => sample_frame::written(&mut self.random),
+            9 => sample_frame::changed(&mut self.random),
+            10 | 11 => {
+                self.swept_frames += 1;
+                sample_frame::swept(&mut self.random, self.swept_frames)
+            }
+            _ => return Ok(()),
+        };
+        self.line(b"F", Some(&frame))
+    }
+
     /// Places that are all zero are not given where no other follows.
     fn ask(&mut self, profile: &Profile) -> io::Result<()> {
         let last = profile.areas.iter().rposition(|area| *area != Area::default());
@@ -287,6 +319,8 @@ impl<W: Write> Generator<W> {
             return self.packet(&packet);
         }
         let octets = LONG_PACKETS[self.long_packets % LONG_PACKETS.len()];
+        let frame = sample_frame::long(&mut self.random, LONG_FRAMES[self.long_packets % LONG_FRAMES.len()]);
+        self.line(b"F", Some(&frame))?;
         self.long_packets += 1;
         self.next_long_packet += if self.long_packets < 3 { 200 } else { 6_000 };
         let packet = sample::long_packet(&mut self.random, profile, octets);
@@ -406,7 +440,7 @@ impl<W: Write> Generator<W> {
 
     /// A line that is none of the commands.
     fn bad_line(&mut self) -> io::Result<()> {
-        let text: &[u8] = match self.random.below(62) {
+        let text: &[u8] = match self.random.below(67) {
             0 => b"",
             1 => b" ",
             2 => b"X",
@@ -466,11 +500,16 @@ impl<W: Write> Generator<W> {
             56 => b"V 050F010100001000000000400000000007AA",
             57 => b"V050F010100001000000000400000000007",
             58 => b"v 050F010100001000000000400000000007",
-            59 => return self.long_bad_line(),
+            59 => b"F",
+            60 => b"F 0859C000000900000000000000110200 ",
+            61 => b"F0859C000000900000000000000110200",
+            62 => b"f 0859C000000900000000000000110200",
+            63 => b"F 0859C00000090000000000000011020",
+            64 => return self.long_bad_line(),
             last => {
                 let mut octets = profile_octets(&second::hexline::profile(), 8);
                 octets.extend_from_slice(&[0; 14]);
-                return self.line(if last == 60 { b"P" } else { b"V" }, Some(&octets));
+                return self.line(if last == 65 { b"P" } else { b"V" }, Some(&octets));
             }
         };
         self.output.write_all(text)?;

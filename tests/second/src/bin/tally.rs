@@ -1,6 +1,6 @@
-//! `tally INPUT OUTPUT` pairs the X and V lines of a `cases` input with their answers and counts how often
-//! each verdict and kind of detail was reached, and each clause of wider. It ends with 1 if one of the fixed
-//! list never was.
+//! `tally INPUT OUTPUT` pairs the X, V and F lines of a `cases` input with their answers and counts how often
+//! each verdict and kind of detail was reached, each clause of wider and each cause of a frame's refusal. It ends
+//! with 1 if one of the fixed list never was.
 
 use std::collections::BTreeMap;
 use std::env;
@@ -10,19 +10,32 @@ use std::process::ExitCode;
 
 use second::cases::{self, Command, State, LONGEST_LINE};
 use second::clauses::{self, Clause};
+use second::frame_causes;
+use second::frame_rows;
 use second::hex;
+use second::hexline;
 use second::map::{store_in_order, Area, Profile, Unsound, LONGEST_STORE};
 use second::program;
+use second::tm::{HEADER_OCTETS, LENGTH_FIELD_OFFSET, PACKET_ID, SEQUENCE_FLAGS};
 
 const ADDRESSES: u64 = 1 << 32;
+/// The octets of a frame whose length field is FFFF.
+const LONGEST_ANNOUNCED: usize = 65_542;
+/// The characters of an F line of 70,000 octets.
+const TOO_LONG_FOR_F: usize = 2 + 140_000;
+const TOO_LONG: &str = "bad line F of 70,000 octets";
+const NO_OCTETS: &str = "no octets";
+const ANNOUNCED_FFFF: &str = "65,542 octets";
+const ABOVE_ANNOUNCED: &str = "above 65,542 octets";
 
-/// How often each kind was reached; and the packets, the maps and the V lines.
+/// How often each kind was reached; and the packets, the maps, the V lines and the F lines.
 #[derive(Default)]
 struct Tally {
     kinds: BTreeMap<String, u64>,
     packets: u64,
     maps: u64,
     questions: u64,
+    frames: u64,
 }
 
 /// The second line of an answer.
@@ -49,7 +62,8 @@ fn main() -> ExitCode {
 
 fn report(tally: &Tally) -> ExitCode {
     let missing: Vec<_> = wanted().into_iter().filter(|kind| !tally.kinds.contains_key(kind)).collect();
-    let mut text = format!("{} packets, {} maps, {} questions\n", tally.packets, tally.maps, tally.questions);
+    let Tally { packets, maps, questions, frames, .. } = tally;
+    let mut text = format!("{packets} packets, {maps} maps, {questions} questions, {frames} frames\n");
     for (kind, times) in &tally.kinds {
         text.push_str(&format!("{times:9}  {kind}\n"));
     }
@@ -84,8 +98,15 @@ fn count(mut input: impl BufRead, mut output: impl BufRead) -> io::Result<Tally>
                     *tally.kinds.entry(kind).or_default() += 1;
                 }
             }
+            Some(Command::ReadFrame(frame)) => {
+                let answer = wanted_line(&mut output)?;
+                tally.frames += 1;
+                for kind in frame_kinds(&frame, &answer)? {
+                    *tally.kinds.entry(kind).or_default() += 1;
+                }
+            }
             Some(Command::Answer(packet)) => {
-                wanted_line(&mut output)?;
+                reads_cleanly(&wanted_line(&mut output)?)?;
                 let verdict = verdict(&wanted_line(&mut output)?)?;
                 tally.packets += 1;
                 for kind in kinds(&state, &packet, &verdict) {
@@ -100,6 +121,9 @@ fn count(mut input: impl BufRead, mut output: impl BufRead) -> io::Result<Tally>
                     return Err(io::Error::other("a bad line was not answered 0200"));
                 }
                 *tally.kinds.entry("bad line".into()).or_default() += 1;
+                if line.starts_with(b"F ") && line.len() == TOO_LONG_FOR_F {
+                    *tally.kinds.entry(TOO_LONG.into()).or_default() += 1;
+                }
             }
         }
     }
@@ -202,6 +226,59 @@ fn question_kinds(state: &State, asked: &Profile, answer: &[u8]) -> io::Result<V
         kinds.push("V 00 only area ends earlier than 2^32".into());
     }
     Ok(kinds)
+}
+
+/// Every frame that the terminal writes is one that reads cleanly.
+fn reads_cleanly(digits: &[u8]) -> io::Result<()> {
+    let written = hex::read(digits).ok_or_else(|| io::Error::other("an answer's first line has another form"))?;
+    let mut frames = written.as_slice();
+    while let Some((frame, rest)) = hexline::split_frame(frames) {
+        if !frame_causes::failing(frame).is_empty() {
+            return Err(io::Error::other("a frame that was written does not read cleanly"));
+        }
+        frames = rest;
+    }
+    Ok(())
+}
+
+/// The kinds that one F line counts for. Its answer has to be the number of the first cause, or the frame's own fields.
+fn frame_kinds(frame: &[u8], answer: &[u8]) -> io::Result<Vec<String>> {
+    let right = match frame_causes::failing(frame).first() {
+        Some(cause) => {
+            let refused = format!("01{:02X} 0000 0000 000000000000 00 00 ", cause.number());
+            answer == refused.as_bytes()
+        }
+        None => frame_of(answer).is_some_and(|read| read == frame),
+    };
+    if !right {
+        return Err(io::Error::other("the answer of an F line is not that of the causes"));
+    }
+    let mut kinds = frame_rows::rows(frame);
+    kinds.extend((frame.len() == LONGEST_ANNOUNCED).then(|| ANNOUNCED_FFFF.into()));
+    kinds.extend((frame.len() > LONGEST_ANNOUNCED).then(|| ABOVE_ANNOUNCED.into()));
+    kinds.extend(frame.is_empty().then(|| NO_OCTETS.into()));
+    Ok(kinds.into_iter().map(frame_kind).collect())
+}
+
+fn frame_kind(row: String) -> String {
+    format!("F {row}")
+}
+
+/// The frame whose fields an F line's answer prints.
+fn frame_of(answer: &[u8]) -> Option<Vec<u8>> {
+    let parts: Option<Vec<Vec<u8>>> = answer.split(|octet| *octet == b' ').map(hex::read).collect();
+    let parts = parts?;
+    let [closing, apid, count, time, service, subtype, source_data] = parts.as_slice() else {
+        return None;
+    };
+    let length_field = u16::try_from(HEADER_OCTETS + source_data.len() - LENGTH_FIELD_OFFSET).ok()?;
+    let right = [closing.len(), apid.len(), count.len(), time.len()] == [2, 2, 2, 6] && *closing == [0, 0];
+    let packet_id = u16::from_be_bytes([*apid.first()?, *apid.last()?]) | PACKET_ID;
+    let sequence = u16::from_be_bytes([*count.first()?, *count.last()?]) | SEQUENCE_FLAGS;
+    let stamp = [packet_id, sequence, length_field].map(u16::to_be_bytes).concat();
+    right.then(|| {
+        [&stamp, time, &vec![0], service, subtype, &vec![0], source_data].into_iter().flatten().copied().collect()
+    })
 }
 
 fn only(clause: Clause) -> String {
@@ -311,6 +388,7 @@ fn wanted() -> Vec<String> {
     wanted.extend((1..6).map(|detail| format!("refused 16 detail {detail}")));
     let others = [
         "bad line",
+        TOO_LONG,
         "refused 40 ",
         "refused 41 PID",
         "refused 41 area count",
@@ -365,5 +443,7 @@ fn wanted() -> Vec<String> {
         "buffer below 4,096",
     ];
     wanted.extend(wider.map(|kind| format!("V 01 {kind}")));
+    wanted.extend(frame_rows::wanted().into_iter().map(frame_kind));
+    wanted.extend([NO_OCTETS, ANNOUNCED_FFFF, ABOVE_ANNOUNCED].map(|row| frame_kind(row.into())));
     wanted
 }
