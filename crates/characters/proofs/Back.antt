@@ -1,32 +1,29 @@
 -- The text of octets is digits, and reads back as those octets.
 -- Assumes nothing.
 use mathlib.Core.Path.{_≡_, refl, sym, ap, ap₂, _∙_}
-use mathlib.Core.Bool.{true, false}
+use mathlib.Core.Bool.{true}
 use mathlib.Core.List.{List, [], _∷_, _++_}
 use Prim.Native.Nat.{ℕ, zero, suc, _+_, _*_, _-_, _/_, _%_, _<_}
 use native.Mathlib.Omega.{arith}
 use lib.ListN.{length}
-use borrow.Author.Tests.{lt-ltb, le-ltb, le-leb, lt-leb}
+use borrow.Author.Tests.{lt-ltb, le-ltb}
 use Rattle.laws.proofs.Tests.{both}
 use Rattle.laws.proofs.Order.{by-order}
 use Rattle.octets.specs.Numbers.{Octets}
-use Rattle.characters.specs.Digits.{within, valueOf, isDigit, digitOf, textOf, allDigits, octetsIn}
-use Rattle.characters.proofs.Digits.{value-number, value-upper}
+use Rattle.characters.specs.Digits.{valueOf, isDigit, digitOf, textOf, allDigits, octetsIn}
+use Rattle.characters.proofs.Digits.{inside, above, value-number, value-upper}
 
 -- The value of a digit that stands for a number is the number's low four bits.
-digit-value : (x : ℕ) → valueOf (digitOf x) ≡ x % 16
+pub digit-value : (x : ℕ) → valueOf (digitOf x) ≡ x % 16
 unfolding digitOf
 digit-value x =
     by-order 10 (x % 16)
     (λ h.
     let c : ℕ = 0x41 + (x % 16 - 10) in
-    let low : within 0x30 0x39 c ≡ false = rw (le-leb 0x30 c (omega arith), lt-leb c 0x39 (omega arith)) refl in
-    let high : within 0x41 0x46 c ≡ true = rw (le-leb 0x41 c (omega arith), le-leb c 0x46 (omega arith)) refl in
-    rw (le-ltb (x % 16) 10 h) (sym (value-upper c low high) ∙ omega arith))
+    rw (le-ltb (x % 16) 10 h) (sym (value-upper c (above 0x30 0x39 c (omega arith)) (inside 0x41 0x46 c (omega arith) (omega arith))) ∙ omega arith))
     (λ h.
     let c : ℕ = 0x30 + x % 16 in
-    let low : within 0x30 0x39 c ≡ true = rw (le-leb 0x30 c (omega arith), le-leb c 0x39 (omega arith)) refl in
-    rw (lt-ltb (x % 16) 10 h) (sym (value-number c low) ∙ omega arith))
+    rw (lt-ltb (x % 16) 10 h) (sym (value-number c (inside 0x30 0x39 c (omega arith) (omega arith))) ∙ omega arith))
 
 is-digit : (x : ℕ) → isDigit (digitOf x) ≡ true
 is-digit x = lt-ltb (valueOf (digitOf x)) 16 (omega (arith, digit-value x))

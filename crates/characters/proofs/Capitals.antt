@@ -6,13 +6,12 @@ use mathlib.Core.List.{List, [], _∷_}
 use Prim.Native.Nat.{ℕ, zero, suc, _+_, _*_, _-_, _/_, _%_, _≤_, _<_}
 use native.Mathlib.Omega.{arith}
 use lib.ListN.{length, getD, set, take}
-use lib.Dec.{ltb}
-use borrow.Author.Tests.{lt-ltb, le-ltb, lt-leb, ltb-true}
-use Rattle.laws.proofs.Tests.{by-test, both}
+use borrow.Author.Tests.{lt-ltb, le-ltb, ltb-true}
+use Rattle.laws.proofs.Tests.{both}
 use Rattle.octets.specs.Copy.{laid}
 use Rattle.octets.proofs.Laid.{laid-next}
 use Rattle.characters.specs.Digits.{within, valueOf, isDigit, digitOf, upperOf, upperText, textOf, allDigits, octetsIn}
-use Rattle.characters.proofs.Digits.{within-bounds, value-number, value-upper, value-lower, value-none}
+use Rattle.characters.proofs.Digits.{within-bounds, below, value-number, value-upper, value-lower, value-none, by-range}
 
 pub upper-lower : (c : ℕ) → within 0x61 0x66 c ≡ true → c - 0x20 ≡ upperOf c
 unfolding upperOf
@@ -45,7 +44,8 @@ digit-low : (x y : ℕ) → x % 16 ≡ y % 16 → digitOf x ≡ digitOf y
 unfolding digitOf
 digit-low x y e = rw e refl
 
-digit-number : (v : ℕ) → v < 10 → digitOf v ≡ 0x30 + v
+-- The first ten digits are the numbers; behind them come the letters.
+pub digit-number : (v : ℕ) → v < 10 → digitOf v ≡ 0x30 + v
 unfolding digitOf
 digit-number v h = let m : v % 16 ≡ v = omega arith in rw (m, lt-ltb v 10 h) refl
 
@@ -53,28 +53,20 @@ digit-letter : (v : ℕ) → 10 ≤ v → v < 16 → digitOf v ≡ 0x41 + (v - 1
 unfolding digitOf
 digit-letter v h l = let m : v % 16 ≡ v = omega arith in rw (m, le-ltb v 10 h) refl
 
-below : (low high c : ℕ) → c < low → within low high c ≡ false
-below low high c h = rw (lt-leb low c h) refl
-
-none : (v : ℕ) → v ≡ 16 → ltb v 16 ≡ true → ⊥
-none v e t = let h : v < 16 = ltb-true v 16 t in omega arith
-
 -- A digit in upper case is the digit of its value.
-digit-upper : (c : ℕ) → isDigit c ≡ true → digitOf (valueOf c) ≡ upperOf c
+digit-upper : (c : ℕ) → valueOf c < 16 → digitOf (valueOf c) ≡ upperOf c
 digit-upper c d =
-    by-test (within 0x30 0x39 c)
+    by-range c
     (λ t.
     let b = within-bounds 0x30 0x39 c t in
     ap digitOf (sym (value-number c t)) ∙ digit-number (c - 0x30) (omega arith) ∙ omega arith ∙ upper-other c (below 0x61 0x66 c (omega arith)))
-    (λ n. by-test (within 0x41 0x46 c)
-    (λ t.
+    (λ n t.
     let b = within-bounds 0x41 0x46 c t in
     ap digitOf (sym (value-upper c n t)) ∙ digit-letter (c - 0x41 + 10) (omega arith) (omega arith) ∙ omega arith ∙ upper-other c (below 0x61 0x66 c (omega arith)))
-    (λ u. by-test (within 0x61 0x66 c)
-    (λ t.
+    (λ n u t.
     let b = within-bounds 0x61 0x66 c t in
     ap digitOf (sym (value-lower c n u t)) ∙ digit-letter (c - 0x61 + 10) (omega arith) (omega arith) ∙ omega arith ∙ upper-lower c t)
-    (λ e. absurd (none (valueOf c) (sym (value-none c n u e)) d))))
+    (λ n u e. absurd (omega (arith, value-none c n u e)))
 
 -- The digits of a text in upper case are the text of its octets.
 pub upper-text : (s : List ℕ) → allDigits s ≡ true → length s % 2 ≡ 0 → upperText s ≡ textOf (octetsIn s)
@@ -85,6 +77,6 @@ upper-text (h ∷ l ∷ s) d even =
     let first = both (isDigit h) (allDigits (l ∷ s)) d in
     let second = both (isDigit l) (allDigits s) (first .1) in
     let x : ℕ = valueOf h % 16 * 16 + valueOf l % 16 in
-    let high : upperOf h ≡ digitOf (x / 16) = sym (digit-low (x / 16) (valueOf h) (omega arith) ∙ digit-upper h (first .0)) in
-    let low : upperOf l ≡ digitOf x = sym (digit-low x (valueOf l) (omega arith) ∙ digit-upper l (second .0)) in
+    let high : upperOf h ≡ digitOf (x / 16) = sym (digit-low (x / 16) (valueOf h) (omega arith) ∙ digit-upper h (ltb-true (valueOf h) 16 (first .0))) in
+    let low : upperOf l ≡ digitOf x = sym (digit-low x (valueOf l) (omega arith) ∙ digit-upper l (ltb-true (valueOf l) 16 (second .0))) in
     ap₂ (λ (c : ℕ) (r : List ℕ). c ∷ r) high (ap₂ (λ (c : ℕ) (r : List ℕ). c ∷ r) low (upper-text s (second .1) (omega arith)))

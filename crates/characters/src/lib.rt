@@ -31,20 +31,20 @@ pub fn value(c: u8) -> u8
     16
 }
 
-// A digit a to f in upper case; any other character as it is.
-pub fn upper(c: u8) -> u8
-    ensures { λ r. ⌜ r ≡ upperOf c ⌝ }
-{
-    if lies_within(0x61, 0x66, c) {
-        return c - 0x20;
-    }
-    c
-}
-
 // The upper-case digit of a number's low four bits.
 pub fn digit(x: u8) -> u8
     ensures { λ r. ⌜ r ≡ digitOf x ⌝ }
 {
     let v = x % 16;
-    if v < 10 { 0x30 + v } else { 0x41 + (v - 10) }
+    if v < 10 { b'0' + v } else { b'A' + (v - 10) }
+}
+
+// A digit a to f in upper case; any other character as it is.
+pub fn upper(c: u8) -> u8
+    ensures { λ r. ⌜ r ≡ upperOf c ⌝ }
+{
+    match c {
+        b'a'..=b'f' => c - b'a' + b'A',
+        _ => c,
+    }
 }

@@ -13,6 +13,8 @@ use Rattle.laws.proofs.Order.{by-order}
 use Rattle.laws.proofs.Tests.{by-test, both}
 use Rattle.octets.specs.Numbers.{octet}
 use Rattle.characters.specs.Digits.{valueOf}
+use Rattle.characters.proofs.Back.{digit-value}
+use Rattle.characters.proofs.Capitals.{digit-number}
 use Rattle.numerals.specs.declared.Numeral.the-variants.{Is}
 use Rattle.numerals.specs.Numbers.{numberMost, digitsOf, saidFrom, statedBy, hasLeadingZero, numeralOf, decimalFrom, decimalOf}
 use Rattle.numerals.proofs.Reading.{numeral-plain}
@@ -35,17 +37,16 @@ digits-append base (c ∷ s) t h k =
 -- ---- one decimal digit
 
 module _ (d : ℕ) (h : d < 10) where
-  digit-value : valueOf (0x30 + d) ≡ d
-  unfolding valueOf
-  digit-value = rw (le-leb 0x30 (0x30 + d) (omega arith), le-leb (0x30 + d) 0x39 (omega arith)) (omega arith)
+  said-value : valueOf (0x30 + d) ≡ d
+  said-value = ap valueOf (sym (digit-number d h)) ∙ digit-value d ∙ omega arith
 
   digit-digits : digitsOf 10 ((0x30 + d) ∷ []) ≡ true
   unfolding digitsOf
-  digit-digits = rw (digit-value, lt-ltb d 10 h) refl
+  digit-digits = rw (said-value, lt-ltb d 10 h) refl
 
   digit-said : (n : ℕ) → saidFrom 10 n ((0x30 + d) ∷ []) ≡ n * 10 + d
   unfolding saidFrom
-  digit-said n = ap (λ (v : ℕ). n * 10 + v) digit-value
+  digit-said n = ap (λ (v : ℕ). n * 10 + v) said-value
 
 -- ---- all of them
 

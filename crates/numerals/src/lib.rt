@@ -21,7 +21,7 @@ const MOST: u64 = 4294967295;
 const ABOVE: u64 = 4294967296;
 
 // The characters `0` and `x`.
-const ZERO: u8 = 0x30;
+const ZERO: u8 = b'0';
 
 const X: u16 = 0x78;
 
@@ -116,7 +116,7 @@ pub fn number(word: &[u8]) -> Numeral
 fn digit(x: u64) -> u8
     ensures { λ r. ⌜ r ≡ 0x30 + x % 10 ⌝ }
 {
-    ZERO + (x % 10) as u8
+    characters::digit((x % 10) as u8)
 }
 
 // Adds the decimal digits of a number, at most so many of them, the last ones.
