@@ -69,11 +69,20 @@ pub fn bad_place(text: &[u8]) -> usize
     i
 }
 
-// Whether every character of a text is a digit.
+// Whether every character of a text is a digit: whether the greatest of their values is one's.
 pub fn all_digits(text: &[u8]) -> bool
     ensures { λ r. ⌜ r ≡ allDigits (now (text .entry)) ⌝ }
 {
-    bad_place(text) == text.len()
+    let mut most = 0;
+    let mut i = 0;
+    while i < text.len() {
+        let v = crate::value(text[i]);
+        if most < v {
+            most = v;
+        }
+        i += 1;
+    }
+    most < 16
 }
 
 // Lays the octets of a text over a buffer's own from a place on; those that would stand past its end are dropped.
