@@ -69,7 +69,7 @@ pub fn bad_place(text: &[u8]) -> usize
     i
 }
 
-// Whether every character of a text is a digit: whether the greatest of their values is one's.
+// Whether every character of a text is a digit: whether the greatest of their values is a digit's.
 pub fn all_digits(text: &[u8]) -> bool
     ensures { λ r. ⌜ r ≡ allDigits (now (text .entry)) ⌝ }
 {
