@@ -7,7 +7,7 @@ use lib.Dec.{leb, eqb}
 use Rattle.octets.specs.Numbers.{octet, word16}
 use Rattle.counts.specs.Counts.{countsOctets}
 use Rattle.characters.specs.Digits.{allDigits, octetsIn}
-use Rattle.commands.specs.Letters.{letterP, letterS, letterK, letterT, letterB, letterX, letterO, letterM, letterR, letterW, letterC, letterV, letterF}
+use Rattle.commands.specs.Letters.{letterP, letterS, letterK, letterT, letterB, letterX, letterO, letterM, letterR, letterW, letterC, letterD, letterV, letterF}
 
 -- The most characters of a line: a letter, a space, and the digits of 70,000 octets.
 abbrev pub lineMost : ℕ
@@ -62,6 +62,10 @@ isProfile given =
 unfoldable pub isBuffer : List ℕ → Bool
 isBuffer given = eqb (length given) 3 && leb (word16 given 0) 8192
 
+-- How many octets the value is that a CRC goes on from.
+abbrev pub startOctets : ℕ
+startOctets = 2
+
 -- The octets that a letter takes; one that is no command, or stands alone, takes none.
 unfoldable pub takes : ℕ → List ℕ → Bool
 takes letter given =
@@ -75,7 +79,8 @@ takes letter given =
     (cond (eqb letter letterR) true
     (cond (eqb letter letterW) (leb 8 (length given))
     (cond (eqb letter letterC) true
-    (cond (eqb letter letterF) (leb (length given) 69999) false))))))))))
+    (cond (eqb letter letterD) (leb startOctets (length given))
+    (cond (eqb letter letterF) (leb (length given) 69999) false)))))))))))
 
 -- The letter of a line that is given those octets, where it is a command that stands alone, or one that takes them; 0 for any other line, which is bad.
 unfoldable pub commandOf : List ℕ → List ℕ → ℕ

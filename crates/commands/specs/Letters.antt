@@ -17,7 +17,7 @@ letterT = 0x54
 abbrev pub letterB : ℕ
 letterB = 0x42
 
--- Those that print: the terminal's answer, the output buffer, the store, the reader's and the writer's answer, the CRC, whether a profile is wider, and the answer of the reader of frames.
+-- Those that print: the terminal's answer, the output buffer, the store, the reader's and the writer's answer, the CRC, the CRC that goes on from a value, whether a profile is wider, and the answer of the reader of frames.
 abbrev pub letterX : ℕ
 letterX = 0x58
 
@@ -35,6 +35,9 @@ letterW = 0x57
 
 abbrev pub letterC : ℕ
 letterC = 0x43
+
+abbrev pub letterD : ℕ
+letterD = 0x44
 
 abbrev pub letterV : ℕ
 letterV = 0x56

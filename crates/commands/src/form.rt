@@ -21,6 +21,9 @@ const PACKET_MOST: usize = 69999;
 // The octets of an order to the writer before its data.
 const ORDER_OCTETS: usize = 8;
 
+// The octets of the value that a CRC goes on from.
+pub const START_OCTETS: usize = 2;
+
 // The flags and the rights that there are, as the largest octet of them.
 const FLAGS_MOST: u16 = 15;
 
@@ -98,6 +101,7 @@ fn takes(letter: u8, given: &[u8]) -> bool
         b'R' => true,
         b'W' => ORDER_OCTETS <= n,
         b'C' => true,
+        b'D' => START_OCTETS <= n,
         b'F' => n <= PACKET_MOST,
         _ => false,
     }

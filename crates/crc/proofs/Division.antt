@@ -3,12 +3,12 @@
 use mathlib.Core.Path.{_≡_, refl, sym, ap, _∙_}
 use mathlib.Core.Bool.{Bool, true, false, cond, xor}
 use mathlib.Core.List.{List, [], _∷_, append-nil, append-assoc}
-use Prim.Native.Nat.{ℕ, suc}
+use Prim.Native.Nat.{ℕ, suc, _<_}
 use native.Mathlib.Omega.{arith}
 use lib.ListN.{length, replicate}
 use Rattle.crc.specs.Register.{allOnes, bitsOf, takeBits, crcFrom, crcOf}
-use Rattle.crc.specs.Division.{plus, times, lowerG, modulo, message, preset, checkSequence, numberOf, sequenceOf}
-use Rattle.crc.proofs.Polynomial.{xor-comm, plus-comm, plus-assoc, plus-append, length-plus, zeros-plus}
+use Rattle.crc.specs.Division.{plus, times, lowerG, modulo, message, remainder, checkSequence, numberOf, presetOf, sequenceFrom, sequenceOf}
+use Rattle.crc.proofs.Polynomial.{xor-comm, plus-comm, plus-assoc, plus-append, length-plus, zeros-plus, numberOf-presetOf}
 use Rattle.crc.proofs.Places.{movedUp, takenAll, length-movedUp, numberOf-takenAll}
 
 -- G(X) added from the highest place on leaves the zeros below alone, in whichever summand it is added.
@@ -52,10 +52,16 @@ unfolding takeBits crcFrom message
 crcFrom-message r [] = refl
 crcFrom-message r (x ∷ xs) = crcFrom-message (takeBits r (bitsOf x)) xs
 
--- The register of document 01 holds A4.2's remainder, whatever the octets.
+-- The register holds the division's remainder, from any start of sixteen bits, whatever the octets.
+pub from-is-division : (start : ℕ) (xs : List ℕ) → start < 65536 → crcFrom start xs ≡ sequenceFrom start xs
+unfolding remainder sequenceFrom
+from-is-division start xs h =
+    crcFrom-message start xs
+    ∙ ap (λ (r : ℕ). takeBits r (message xs)) (sym (numberOf-presetOf start h))
+    ∙ sym (numberOf-takenAll (presetOf start) (message xs) refl)
+    ∙ ap numberOf (sym (modulo-takes (message xs) (presetOf start) refl))
+
+-- From all ones it is A4.2's own.
 pub crc-is-division : (xs : List ℕ) → crcOf xs ≡ sequenceOf xs
-unfolding crcOf checkSequence sequenceOf numberOf
-crc-is-division xs =
-    crcFrom-message allOnes xs
-    ∙ sym (numberOf-takenAll preset (message xs) refl)
-    ∙ ap numberOf (sym (modulo-takes (message xs) preset refl))
+unfolding checkSequence sequenceFrom sequenceOf
+crc-is-division xs = from-is-division allOnes xs (omega arith)

@@ -13,8 +13,8 @@ use lib.Dec.{leb}
 use lib.ListN.{length, replicate, drop, getD}
 use lib.Seq.{drop-cons}
 use Rattle.crc.specs.Register.{generator, allOnes, bitsOf, moved, takeBit, takeBits, crcFrom, crcOf}
-use Rattle.crc.specs.Division.{plus, numberOf}
-use Rattle.crc.proofs.Polynomial.{length-plus, numberOf-append, numberOf-zeros, numberOf-plus, digitsOf, length-digitsOf, numberOf-digitsOf, numberOf-bitsOf}
+use Rattle.crc.specs.Division.{plus, numberOf, presetOf}
+use Rattle.crc.proofs.Polynomial.{length-plus, numberOf-append, numberOf-zeros, numberOf-plus, digitsOf, length-digitsOf, numberOf-digitsOf, numberOf-bitsOf, numberOf-presetOf}
 use Rattle.crc.proofs.Places.{numberOf-takenAll, takenAll-own, takenAll-added}
 
 -- What follows is taken from where the first part left the register.
@@ -25,7 +25,6 @@ crcFrom-append r (x ∷ xs) ys = crcFrom-append (takeBits r (bitsOf x)) xs ys
 
 -- The CRC of two parts is that of the second from where the first left the register.
 pub crc-append : (xs ys : List ℕ) → crcOf (xs ++ ys) ≡ crcFrom (crcOf xs) ys
-unfolding crcOf
 crc-append xs ys = crcFrom-append allOnes xs ys
 
 -- One octet of a list is taken, and the rest is left.
@@ -56,7 +55,6 @@ crcFrom-lt r (x ∷ xs) h = crcFrom-lt (takeBits r (bitsOf x)) xs (takeBits-lt r
 
 -- The CRC is a number of sixteen bits, whatever the list.
 pub crc-lt : (xs : List ℕ) → crcOf xs < 65536
-unfolding crcOf
 crc-lt xs = crcFrom-lt allOnes xs (omega arith)
 
 -- A zero moves the register up where a 0 leaves at the top.
@@ -97,20 +95,15 @@ takeBits-octet r x h k =
         (arith, numberOf-append (bitsOf x) (replicate 8 false), numberOf-bitsOf x, numberOf-zeros 8)
 
 -- A register that takes its own sixteen bits is left empty.
-takeBits-own : (r : ℕ) → r < 65536 → takeBits r (bitsOf (r / 256) ++ bitsOf (r % 256)) ≡ 0
+takeBits-own : (r : ℕ) → r < 65536 → takeBits r (presetOf r) ≡ 0
 takeBits-own r h =
-    ap (λ (n : ℕ). takeBits n p) (sym places)
+    ap (λ (n : ℕ). takeBits n p) (sym (numberOf-presetOf r h))
     ∙ sym (numberOf-takenAll p p refl)
     ∙ ap numberOf (takenAll-own p [])
     ∙ numberOf-zeros 16
   where
     p : List Bool
-    p = bitsOf (r / 256) ++ bitsOf (r % 256)
-
-    places : numberOf p ≡ r
-    places =
-        omega
-        (arith, numberOf-append (bitsOf (r / 256)) (bitsOf (r % 256)), numberOf-bitsOf (r / 256), numberOf-bitsOf (r % 256))
+    p = presetOf r
 
 -- A list followed by its own CRC, the high octet first, has the CRC 0.
 pub crc-own : (xs : List ℕ) → crcOf (xs ++ (crcOf xs / 256 ∷ crcOf xs % 256 ∷ [])) ≡ 0

@@ -2,3 +2,4 @@ pub mod Polynomial
 pub mod Places
 pub mod Laws
 pub mod Division
+pub mod Parts

@@ -12,7 +12,7 @@ use lib.Bits.{bitXor, xor-block}
 use lib.ListN.{length, replicate, length-append}
 use lib.Pow.{pow-add, mod-pow-add}
 use Rattle.crc.specs.Register.{odd, bitsOf}
-use Rattle.crc.specs.Division.{plus, digit, numberOf}
+use Rattle.crc.specs.Division.{plus, digit, numberOf, presetOf}
 
 pub xor-comm : (a b : Bool) → xor a b ≡ xor b a
 unfolding xor
@@ -138,3 +138,9 @@ bitsOf-digits x = simp div-one
 
 pub numberOf-bitsOf : (x : ℕ) → numberOf (bitsOf x) ≡ x % 256
 numberOf-bitsOf x = ap numberOf (bitsOf-digits x) ∙ numberOf-digitsOf 8 x
+
+-- A value of sixteen bits is the number that its polynomial's coefficients are the digits of.
+pub numberOf-presetOf : (r : ℕ) → r < 65536 → numberOf (presetOf r) ≡ r
+numberOf-presetOf r h =
+    omega
+    (arith, numberOf-append (bitsOf (r / 256)) (bitsOf (r % 256)), numberOf-bitsOf (r / 256), numberOf-bitsOf (r % 256))

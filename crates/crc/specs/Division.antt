@@ -1,7 +1,7 @@
 -- The same CRC as source document 004 writes it in its appendix A4.2: the remainder of a division of polynomials with coefficients 0 and 1. A polynomial is the list of its coefficients, the highest power first.
 use mathlib.Core.Bool.{Bool, true, false, xor}
 use mathlib.Core.List.{List, [], _∷_, _++_}
-use Prim.Native.Nat.{ℕ, zero, suc, _+_, _*_, _^_}
+use Prim.Native.Nat.{ℕ, zero, suc, _+_, _*_, _/_, _%_, _^_}
 use lib.ListN.{length, replicate}
 use Rattle.crc.specs.Register.{bitsOf}
 
@@ -37,9 +37,13 @@ message (x ∷ xs) = bitsOf x ++ message xs
 abbrev pub preset : List Bool
 preset = replicate 16 true
 
--- A4.2's equation, for a message of n - 16 bits: PCS = [X^16 . M(X) + X^(n-16) . L(X)] modulo G(X).
+-- A4.2's equation, for a message of n - 16 bits and any presetting polynomial P(X) of sixteen coefficients in the place of L(X): [X^16 . M(X) + X^(n-16) . P(X)] modulo G(X).
+unfoldable pub remainder : List Bool → List Bool → List Bool
+remainder p m = modulo (length m) (plus (times 16 m) (times (length m) p))
+
+-- A4.2's own: PCS = [X^16 . M(X) + X^(n-16) . L(X)] modulo G(X).
 unfoldable pub checkSequence : List Bool → List Bool
-checkSequence m = modulo (length m) (plus (times 16 m) (times (length m) preset))
+checkSequence m = remainder preset m
 
 -- A coefficient as a number.
 abbrev pub digit : Bool → ℕ
@@ -50,6 +54,14 @@ digit false = 0
 unfoldable pub numberOf : List Bool → ℕ
 numberOf [] = 0
 numberOf (b ∷ bs) = digit b * 2 ^ length bs + numberOf bs
+
+-- The presetting polynomial that a start value of sixteen bits stands for: that of its two octets, the higher one first.
+abbrev pub presetOf : ℕ → List Bool
+presetOf r = bitsOf (r / 256) ++ bitsOf (r % 256)
+
+-- The check sequence of a list of octets that goes on from a start value, as a number.
+unfoldable pub sequenceFrom : ℕ → List ℕ → ℕ
+sequenceFrom r xs = numberOf (remainder (presetOf r) (message xs))
 
 -- The packet check sequence of a list of octets, as a number.
 unfoldable pub sequenceOf : List ℕ → ℕ

@@ -1,3 +1,4 @@
 pub mod Register
 pub mod Division
+pub mod Parts
 pub mod Vectors

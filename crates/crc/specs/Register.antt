@@ -1,4 +1,4 @@
--- The CRC of document 01 ("error control"): polynomial x^16 + x^12 + x^5 + 1, start all ones, most significant bit first; here as a register of 16 bits that takes the message bit by bit.
+-- The CRC of document 01 ("error control"): polynomial x^16 + x^12 + x^5 + 1, start all ones, most significant bit first; here as a register of 16 bits that takes the message bit by bit. Document 02, wish 8: from any start.
 use mathlib.Core.Bool.{Bool, cond, xor}
 use mathlib.Core.List.{List, [], _∷_}
 use Prim.Native.Nat.{ℕ, _*_, _/_, _%_}
@@ -9,7 +9,7 @@ use lib.Dec.{leb, eqb}
 abbrev pub generator : ℕ
 generator = 0x1021
 
--- What the register holds before the first bit.
+-- What the register holds before the first bit of a packet or of a block.
 abbrev pub allOnes : ℕ
 allOnes = 0xffff
 
@@ -35,11 +35,11 @@ unfoldable pub takeBits : ℕ → List Bool → ℕ
 takeBits r [] = r
 takeBits r (b ∷ bs) = takeBits (takeBit r b) bs
 
--- The register after the octets of a list in turn, from what it held before.
+-- The register after the octets of a list in turn, from what it held before: the CRC that goes on from a value.
 unfoldable pub crcFrom : ℕ → List ℕ → ℕ
 crcFrom r [] = r
 crcFrom r (x ∷ xs) = crcFrom (takeBits r (bitsOf x)) xs
 
--- The CRC of a list of octets.
-unfoldable pub crcOf : List ℕ → ℕ
+-- The CRC of a list of octets: the one from all ones.
+abbrev pub crcOf : List ℕ → ℕ
 crcOf xs = crcFrom allOnes xs

@@ -1,18 +1,21 @@
-// The CRC of document 01 over any octets.
+// The CRC of document 01 over any octets, from any start.
 ghost use mathlib.Core.Path.{_≡_};
-ghost use Rattle.crc.specs.Register.{bitsOf, takeBits, crcOf};
+ghost use Rattle.crc.specs.Register.{bitsOf, takeBits, crcFrom};
 
-// The CRC of the octets given, in their order.
-pub fn crc(octets: &[u8]) -> u16
-    ensures { λ r. ⌜ r ≡ crcOf (now (octets .entry)) ⌝ }
+// What the CRC of a packet or of a block starts from.
+pub const ALL_ONES: u16 = 0xFFFF;
+
+// The CRC that goes on from a value over the octets given, in their order.
+pub fn crc(start: u16, octets: &[u8]) -> u16
+    ensures { λ r. ⌜ r ≡ crcFrom start (now (octets .entry)) ⌝ }
 {
-    let mut register: u16 = 0xFFFF;
+    let mut register = start;
     let mut i = 0;
     while i < octets.len() {
         register = take_octet(register, octets[i]);
         i += 1;
     }
-    register
+    register // what the next part goes on from
 }
 
 // The register after one octet: added in at the top, then moved up eight times.

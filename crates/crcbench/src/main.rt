@@ -9,7 +9,7 @@ fn main() {
     for round in 0usize..1000 {
         turn(&mut octets);
     }
-    io::print_hex(STDOUT_FILENO, crc::crc(&octets) as u64, 4);
+    io::print_hex(STDOUT_FILENO, crc::crc(crc::ALL_ONES, &octets) as u64, 4);
     io::write_all(STDOUT_FILENO, b"\n");
 }
 
@@ -18,7 +18,7 @@ fn turn(octets: &mut [u8]) {
     if octets.len() < 2 {
         return;
     }
-    let value = crc::crc(octets);
+    let value = crc::crc(crc::ALL_ONES, octets);
     octets[0] = (value / octets::numbers::VALUES) as u8;
     octets[1] = (value % octets::numbers::VALUES) as u8;
 }

@@ -62,7 +62,8 @@ fn entry(
     let carried = requests::carried_by(Action::Check);
     let block = blocks::reading::block_at(carried, application, place);
     let covered = map::place::stored(area, store, block.start, block.words as u32);
-    let octets = reports::check_entry(block.start, block.words, crc::crc(covered));
+    let value = crc::crc(crc::ALL_ONES, covered);
+    let octets = reports::check_entry(block.start, block.words, value);
     octets::copy::put(out, at, &octets);
     block.next
 }

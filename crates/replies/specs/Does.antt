@@ -5,12 +5,12 @@ use Prim.Native.Nat.{ℕ}
 use lib.ListN.{length}
 use lib.Dec.{eqb}
 use Rattle.octets.specs.Copy.{laid}
-use Rattle.commands.specs.Letters.{letterP, letterS, letterK, letterT, letterB, letterX, letterO, letterM, letterR, letterW, letterC, letterV, letterF}
+use Rattle.commands.specs.Letters.{letterP, letterS, letterK, letterT, letterB, letterX, letterO, letterM, letterR, letterW, letterC, letterD, letterV, letterF}
 use Rattle.commands.specs.declared.session.Session.{Session}
 use Rattle.commands.specs.Session.{withProfile, withState, withTime, withStored, withRoom, profileIn, stateIn, timeIn, filling}
 use Rattle.saying.specs.Text.{lineOf}
 use Rattle.fieldtext.specs.Fields.{readText as frameText}
-use Rattle.showing.specs.Shows.{Bench, Does, storeNow, outNow, answering, readText, writeText, controlText, widerText}
+use Rattle.showing.specs.Shows.{Bench, Does, storeNow, outNow, answering, readText, writeText, controlText, goingOnText, widerText}
 
 -- The answer to a bad line.
 abbrev pub badText : List ℕ
@@ -37,6 +37,7 @@ does letter b given =
     (cond (eqb letter letterR) (printing b (readText given))
     (cond (eqb letter letterW) (printing b (writeText given))
     (cond (eqb letter letterC) (printing b (controlText given))
+    (cond (eqb letter letterD) (printing b (goingOnText given))
     (cond (eqb letter letterV) (printing b (widerText (b .session) given))
     (cond (eqb letter letterF) (printing b (frameText given))
-    (printing b badText)))))))))))))
+    (printing b badText))))))))))))))

@@ -8,7 +8,7 @@ use denote.Ref.{now}
 use Rattle.octets.specs.Numbers.{octet, word16, octets16}
 use Rattle.octets.specs.Copy.{laid, between}
 use Rattle.lines.specs.Feed.{Lent}
-use Rattle.crc.specs.Register.{crcOf}
+use Rattle.crc.specs.Register.{allOnes, crcFrom}
 use Rattle.writer.specs.declared.Order.{Order}
 use Rattle.reader.specs.Reader.{readingOf, dataRead}
 use Rattle.writer.specs.Writer.{writtenOf, bufferAfter}
@@ -16,6 +16,7 @@ use Rattle.wider.specs.Wider.{wider}
 use Rattle.terminal.specs.declared.Outcome.{Outcome}
 use Rattle.terminal.specs.Outcome.{Input, input, verdictOn, octetsDue, outcomeOf, storeOn, outAfter}
 use Rattle.commands.specs.declared.session.Session.{Session}
+use Rattle.commands.specs.Form.{startOctets}
 use Rattle.commands.specs.Session.{withState, profileIn}
 use Rattle.saying.specs.Text.{space, lineOf, Says}
 use Rattle.printing.specs.Answer.{verdictText, countsText, fieldsText, writtenText}
@@ -76,9 +77,17 @@ writeText given =
     writtenText (writtenOf (orderIn given) (length (dataIn given)) (word16 given 6))
     ++ space ∷ lineOf (bufferAfter (orderIn given) (dataIn given) (writerBuffer given))
 
+-- The CRC from a start over some octets, on a line.
+abbrev pub valueText : ℕ → List ℕ → List ℕ
+valueText start octets = lineOf (octets16 (crcFrom start octets))
+
 -- C: the CRC.
 abbrev pub controlText : List ℕ → List ℕ
-controlText given = lineOf (octets16 (crcOf given))
+controlText given = valueText allOnes given
+
+-- D: a start value, and the octets behind it.
+abbrev pub goingOnText : List ℕ → List ℕ
+goingOnText given = valueText (word16 given 0) (between startOctets (length given) given)
 
 -- V: 01 where the profile given is wider than the one that stands, over the store that stands, else 00.
 abbrev pub widerText : Session → List ℕ → List ℕ

@@ -1,4 +1,5 @@
 // The commands that print what the terminal, the reader, the writer, the CRC or the profiles answer.
+use commands::form::START_OCTETS;
 use commands::session;
 use commands::session::Session;
 use printing::answer;
@@ -9,7 +10,7 @@ ghost use mathlib.Core.Path.{_≡_};
 ghost use Prim.Native.Nat.{min};
 ghost use Rattle.saying.specs.Text.{SaysBy};
 ghost use Rattle.writer.specs.Writer.{Writes};
-ghost use Rattle.showing.specs.Shows.{benchOf, inputAt, AnsweredAt, ServedBy, answering, readText, orderIn, dataIn, writeText, controlText, widerText};
+ghost use Rattle.showing.specs.Shows.{benchOf, inputAt, AnsweredAt, ServedBy, answering, readText, orderIn, dataIn, writeText, valueText, controlText, goingOnText, widerText};
 
 // The longest buffer that the writer is given.
 const PACKET_ROOM: usize = 65536;
@@ -110,7 +111,23 @@ fn order_in(given: &[u8]) -> Order
 pub fn control(given: &[u8], text: &mut [u8], at: usize) -> usize
     ensures { λ r. ⌜ SaysBy (controlText (now (given .entry))) at text r ⌝ }
 {
-    let two = octets::numbers::octets_of16(crc::crc(given));
+    put_value(crc::ALL_ONES, given, text, at)
+}
+
+// D: the CRC that goes on from the value at the front of some octets, over those behind it.
+pub fn control_from(given: &[u8], text: &mut [u8], at: usize) -> usize
+    ensures { λ r. ⌜ SaysBy (goingOnText (now (given .entry))) at text r ⌝ }
+{
+    let start = octets::numbers::word16_at(given, 0);
+    let part = octets::copy::part(given, START_OCTETS, given.len());
+    put_value(start, part, text, at)
+}
+
+// The CRC from a start over some octets, on a line.
+fn put_value(start: u16, octets: &[u8], text: &mut [u8], at: usize) -> usize
+    ensures { λ r. ⌜ SaysBy (valueText start (now (octets .entry))) at text r ⌝ }
+{
+    let two = octets::numbers::octets_of16(crc::crc(start, octets));
     saying::line(text, at, &two)
 }
 

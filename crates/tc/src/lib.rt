@@ -27,5 +27,5 @@ pub struct Fields {
 pub fn error_control(octets: &[u8]) -> u16
     ensures { λ r. ⌜ r ≡ errorControl (now (octets .entry)) ⌝ }
 {
-    crc::crc(octets)
+    crc::crc(crc::ALL_ONES, octets)
 }

@@ -11,6 +11,6 @@ fn main() {
 }
 
 fn show(octets: &[u8]) {
-    io::print_hex(STDOUT_FILENO, crc::crc(octets) as u64, 4);
+    io::print_hex(STDOUT_FILENO, crc::crc(crc::ALL_ONES, octets) as u64, 4);
     io::write_all(STDOUT_FILENO, b"\n");
 }

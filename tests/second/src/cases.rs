@@ -1,8 +1,8 @@
-//! The program `cases`: the whole terminal, the readers and the writer for lines of text.
+//! The program `cases`: the whole terminal, the readers, the writer and the CRC for lines of text.
 
 use std::io::{self, Read, Write};
 
-use crate::crc::crc;
+use crate::crc::{crc, START};
 use crate::hex;
 use crate::hexline;
 use crate::lines;
@@ -50,6 +50,8 @@ pub enum Command {
     ReadFrame(Vec<u8>),
     /// C
     Crc(Vec<u8>),
+    /// D
+    CrcFrom { start: u16, octets: Vec<u8> },
 }
 
 /// The octets of a W line.
@@ -114,6 +116,7 @@ fn with_octets(letter: u8, octets: Vec<u8>) -> Option<Command> {
         b'W' => write_fields(&octets).map(Command::WritePacket),
         b'F' if octets.len() <= MOST_FRAME_OCTETS => Some(Command::ReadFrame(octets)),
         b'C' => Some(Command::Crc(octets)),
+        b'D' => crc_from(&octets),
         _ => None,
     }
 }
@@ -170,6 +173,11 @@ fn write_fields(octets: &[u8]) -> Option<WriteFields> {
     })
 }
 
+fn crc_from(octets: &[u8]) -> Option<Command> {
+    let (start, octets) = octets.split_first_chunk::<2>()?;
+    Some(Command::CrcFrom { start: u16::from_be_bytes(*start), octets: octets.to_vec() })
+}
+
 impl Default for State {
     fn default() -> State {
         State::new()
@@ -206,7 +214,8 @@ impl State {
             Command::ReadPacket(packet) => read_packet(&packet, text),
             Command::WritePacket(fields) => write_packet(&fields, text),
             Command::ReadFrame(frame) => read_frame(&frame, text),
-            Command::Crc(octets) => print(&[&crc(&octets).to_be_bytes()], text),
+            Command::Crc(octets) => print(&[&crc(START, &octets).to_be_bytes()], text),
+            Command::CrcFrom { start, octets } => print(&[&crc(start, &octets).to_be_bytes()], text),
         }
     }
 

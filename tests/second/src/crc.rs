@@ -1,16 +1,19 @@
 //! The error control of TC packets and the value of check reports: the 16-bit CRC,
-//! polynomial x^16 + x^12 + x^5 + 1, start all ones, most significant bit first.
+//! polynomial x^16 + x^12 + x^5 + 1, start all ones, most significant bit first. It takes its
+//! start and hands back a value to go on from: parts taken in turn give the CRC of the whole.
 
 /// x^12 + x^5 + 1; x^16 is the bit that is shifted out.
 const POLYNOMIAL: u16 = 0x1021;
-const START: u16 = 0xFFFF;
+/// All ones: the start of document 01, for a packet, a block or any whole.
+pub const START: u16 = 0xFFFF;
 
 /// For each octet, what eight shifts make of it in the upper half of the register.
 const TABLE: [u16; 256] = table();
 
-/// The CRC of the octets.
-pub fn crc(octets: &[u8]) -> u16 {
-    let mut register = START;
+/// The CRC that goes on from a value. From `START` it is the CRC of the octets; from the CRC of what stands before
+/// them, that of the whole. A start is any 16 bits.
+pub fn crc(start: u16, octets: &[u8]) -> u16 {
+    let mut register = start;
     for octet in octets {
         let [upper, lower] = register.to_be_bytes();
         register = u16::from_be_bytes([lower, 0]) ^ TABLE[usize::from(upper ^ octet)];
@@ -19,8 +22,8 @@ pub fn crc(octets: &[u8]) -> u16 {
 }
 
 /// The same value one bit at a time, as 004 appendix A4.2 has it. The tests hold the table against it.
-pub fn bit_by_bit(octets: &[u8]) -> u16 {
-    let mut register = START;
+pub fn bit_by_bit(start: u16, octets: &[u8]) -> u16 {
+    let mut register = start;
     for octet in octets {
         for place in (0..8).rev() {
             let bit_in = (octet >> place) & 1 == 1;

@@ -27,6 +27,7 @@ pub mod sample_bad_unit;
 pub mod sample_frame;
 pub mod sample_line;
 pub mod sample_map;
+pub mod sample_parts;
 pub mod sample_record;
 pub mod sample_unit;
 pub mod sample_wider;

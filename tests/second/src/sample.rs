@@ -2,7 +2,7 @@
 //! the terminal can answer. A kind aims at its answer; now and then it gets another.
 
 use crate::blocks::MemoryRequest;
-use crate::crc::crc;
+use crate::crc::{crc, START};
 use crate::map::{Area, Profile};
 use crate::random::Random;
 
@@ -86,7 +86,7 @@ impl Fields {
 /// Makes the error control right.
 fn seal(octets: &mut [u8]) {
     if let Some((body, error_control)) = octets.split_last_chunk_mut::<2>() {
-        *error_control = crc(body).to_be_bytes();
+        *error_control = crc(START, body).to_be_bytes();
     }
 }
 

@@ -1,7 +1,7 @@
 //! Telecommand packets: the reader, which makes checks 42, 1, 2 and 16 and no others,
 //! and the writer, which refuses with 50, 51 and 52.
 
-use crate::crc::crc;
+use crate::crc::{crc, START};
 use crate::refusal::{self, Refusal};
 
 pub const SHORTEST: usize = 12;
@@ -66,7 +66,7 @@ pub fn read(packet: &[u8]) -> Result<Telecommand<'_>, Refusal> {
     let (body, error_control) = packet.split_last_chunk::<ERROR_CONTROL_OCTETS>().ok_or(wrong_count)?;
     let (header, data) = body.split_first_chunk::<HEADER_OCTETS>().ok_or(wrong_count)?;
 
-    let right = crc(body);
+    let right = crc(START, body);
     if u16::from_be_bytes(*error_control) != right {
         return Err(Refusal::new(refusal::ERROR_CONTROL, right));
     }
@@ -113,7 +113,7 @@ pub fn write(order: &Order, buffer: &mut [u8]) -> Result<usize, u8> {
     body[8] = order.subtype;
     body[9] = 0;
     body[HEADER_OCTETS..].copy_from_slice(order.data);
-    error_control.copy_from_slice(&crc(body).to_be_bytes());
+    error_control.copy_from_slice(&crc(START, body).to_be_bytes());
     Ok(length)
 }
 

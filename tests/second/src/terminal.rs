@@ -4,7 +4,7 @@
 use std::ops::Range;
 
 use crate::blocks::{read_connection_data, read_memory_data, Block, MemoryRequest};
-use crate::crc::crc;
+use crate::crc::{crc, START};
 use crate::map::{store_in_order, Area, Flags, Profile, Rights};
 use crate::refusal::{self, Refusal};
 use crate::tc::{self, Telecommand};
@@ -203,7 +203,7 @@ fn carry_out(request: &Request, store: &mut [u8], frames: &mut Frames) {
             for Placed { block, octets } in blocks {
                 source.extend_from_slice(&block.start.to_be_bytes());
                 source.extend_from_slice(&block.length.to_be_bytes());
-                source.extend_from_slice(&crc(&store[octets.clone()]).to_be_bytes());
+                source.extend_from_slice(&crc(START, &store[octets.clone()]).to_be_bytes());
             }
             frames.put(MEMORY, 10, &[&source]);
         }

@@ -485,6 +485,165 @@ fn c_is_the_crc() {
     assert_ne!(run(format!("C {}\n", "00".repeat(70_000))), "0200\n");
 }
 
+/// P1 and the published vectors: each start is the value of the octets before.
+#[test]
+fn d_goes_on_from_its_start() {
+    assert_eq!(run("D FFFF\nD FFFF00\nD E1F000\nD 1D0F00\n"), "FFFF\nE1F0\n1D0F\nCC9C\n");
+    assert_eq!(run("D FFFF0000\nD FFFF000000\nD E1F00000\n"), "1D0F\nCC9C\nCC9C\n");
+    assert_eq!(run("D FFFFABCDEF01\nD FFFF1456F89A0001\n"), "04A2\n7FD5\n");
+    // A message with its CRC has CRC zero: the value met by its own octets.
+    assert_eq!(run("D 04A204A2\nD 7FD57FD5\nD FFFFFFFF\nD 00000000\n"), "0000\n0000\n0000\n0000\n");
+    // P2's packet; 613A is what Python's binascii.crc_hqx gives for its first seven octets.
+    assert_eq!(run("D FFFF185CC000000519\nD 613A110100\nD 0167"), "613A\n0167\n0167\n");
+}
+
+/// Each published vector in two parts; the values between are what Python's binascii.crc_hqx(octets, 0xFFFF) gives.
+#[test]
+fn d_over_a_published_vector_cut_at_each_place() {
+    let vectors: [(&str, &[&str]); 4] = [
+        ("0000", &["FFFF", "E1F0", "1D0F"]),
+        ("000000", &["FFFF", "E1F0", "1D0F", "CC9C"]),
+        ("ABCDEF01", &["FFFF", "E571", "D46A", "ED38", "04A2"]),
+        ("1456F89A0001", &["FFFF", "B345", "E88B", "9931", "0163", "7321", "7FD5"]),
+    ];
+    for (whole, values) in vectors {
+        let value = values[whole.len() / 2];
+        for (place, between) in values.iter().enumerate() {
+            let (before, behind) = whole.split_at(place * 2);
+            let lines = format!("D FFFF{before}\nD {between}{behind}\nC {whole}\n");
+            assert_eq!(run(lines), format!("{between}\n{value}\n{value}\n"), "{whole} at {place}");
+            // Parts of no octets before, between and behind.
+            let lines = format!("D FFFF\nD FFFF{before}\nD {between}\nD {between}{behind}\nD {value}\n");
+            let expected = format!("FFFF\n{between}\n{between}\n{value}\n{value}\n");
+            assert_eq!(run(lines), expected, "{whole} at {place}");
+        }
+    }
+}
+
+#[test]
+fn d_of_no_octets_prints_its_start() {
+    for start in ["0000", "0001", "0100", "00FF", "FF00", "1234", "7FFF", "8000", "ABCD", "FFFE", "FFFF"] {
+        assert_eq!(run(format!("D {start}\n")), format!("{start}\n"));
+    }
+}
+
+/// By hand from the polynomial: the upper octet of the start meets the next octet, the lower one the octet after that.
+#[test]
+fn d_from_zero_and_from_one_bit() {
+    assert_eq!(run("D 000000\nD 000001\nD 010000\nD 000100\nD 00010000\n"), "0000\n1021\n1021\n0100\n1021\n");
+    assert_eq!(run("D 010101\nD 01010101\nD 008000\n"), "0100\n0000\n8000\n");
+    assert_eq!(run(format!("D {}\n", "00".repeat(70_000))), "0000\n");
+}
+
+/// The values are what Python's binascii.crc_hqx(octets, start) gives.
+#[test]
+fn d_from_any_start() {
+    for (line, value) in [
+        ("D 123456", "3C40"),
+        ("D 341256", "5EE4"),
+        ("D 800000", "9188"),
+        ("D FFFE00", "E0F0"),
+        ("D BEEFBEEF", "0000"),
+        ("D BEEFEFBE", "775A"),
+        ("D 0000ABCDEF01", "8062"),
+        ("D 1D0FABCDEF01", "8E72"),
+        ("D 04A21456F89A0001", "1983"),
+        ("D FFFF313233343536373839", "29B1"),
+        ("D 0000313233343536373839", "31C3"),
+        ("D 1D0F313233343536373839", "E5CC"),
+        ("D 1234313233343536373839", "EDEB"),
+        ("D ABCD313233343536373839", "7003"),
+    ] {
+        assert_eq!(run(line), format!("{value}\n"), "{line}");
+        let (letter, digits) = line.split_at(2);
+        assert_eq!(run(format!("{letter}{}\n", digits.to_lowercase())), format!("{value}\n"), "{line}");
+    }
+    assert_eq!(run("D ABCDEF01\nD aBcDeF01\nD AbCdEf01\nD ffff"), "D9C8\nD9C8\nD9C8\nFFFF\n");
+}
+
+#[test]
+fn d_from_ffff_is_c() {
+    for octets in ["", "00", "ABCD", "abcdef01", "185CC000000519110100", &"5A".repeat(300), &"A5".repeat(69_998)] {
+        assert_eq!(run(format!("D FFFF{octets}\n")), run(format!("C {octets}\n")));
+    }
+}
+
+/// The values are what Python's binascii.crc_hqx gives.
+#[test]
+fn d_takes_as_many_octets_as_a_line_holds() {
+    let d = |start: &str, octet: &str, count: usize| run(format!("D {start}{}\n", octet.repeat(count)));
+    assert_eq!(d("FFFF", "00", 69_998), "0AF5\n");
+    assert_eq!(d("1234", "11", 69_998), "D7E3\n");
+    assert_eq!(d("FFFF", "00", 65_536), "1D0F\n");
+    for count in [69_999, 70_000, 100_000] {
+        assert_eq!(d("FFFF", "00", count), "0200\n", "{count}");
+    }
+    assert_eq!(run(format!("D FFFF{}\nD FFFF", "0".repeat(139_995))), "0200\nFFFF\n");
+    assert_eq!(run(format!("D FFFF{}\nD FFFF", "0".repeat(139_997))), "0200\nFFFF\n");
+    // What D cannot take at once it takes in two parts; 5071 is the CRC of 70,000 octets 00.
+    assert_eq!(d("0AF5", "00", 2), "5071\n");
+    assert_eq!(run(format!("C {}\n", "00".repeat(70_000))), "5071\n");
+}
+
+/// An image that a harness holds in parts of 4 KiB: what `seq -w 1 2000` prints. Its parts are checked in turn, and
+/// the whole. The values are what Python's binascii.crc_hqx gives.
+#[test]
+fn an_image_in_parts() {
+    let image: String = (1..=2_000).map(|number| format!("{number:04}\n")).collect();
+    let digits: Vec<String> = image.bytes().map(|octet| format!("{octet:02X}")).collect();
+    let parts: Vec<String> = digits.chunks(4_096).map(<[String]>::concat).collect();
+    assert_eq!(parts.iter().map(|part| part.len() / 2).collect::<Vec<_>>(), [4_096, 4_096, 1_808]);
+    assert!(parts[0].starts_with("303030310A303030320A") && parts[2].ends_with("323030300A"));
+    let lines = format!("D FFFF{}\nD 9885{}\nD 5541{}\nC {}\n", parts[0], parts[1], parts[2], digits.concat());
+    assert_eq!(run(lines), "9885\n5541\n3221\n3221\n");
+}
+
+#[test]
+fn d_sets_nothing() {
+    let lines = [
+        "S 00112233445566778899\n".to_string(),
+        line('P', "05 0F 01  01 00001000 00000004 00000001 07"),
+        "K 3FFE0005\n".into(),
+        "T 010203040506\n".into(),
+        "B 1001A5\n".into(),
+        x(&common::request(9, 6, 2, "01 01 00001001 0001 BEEF")),
+        x(&common::request(9, 6, 5, "01 02 00001000 0002 00001003 0001")),
+        x(&common::request(1, 6, 9, "01 01 00001000 0004")),
+        x(&common::request(0, 6, 5, "02 01 00001050 0001")),
+        GOOD.into(),
+        "R 185CC0000005191101000168\n".into(),
+        "W 050000091101000E\n".into(),
+        line('V', AT_THE_START),
+        "C 0000\n".into(),
+        "C \n".into(),
+        "M\n".into(),
+        "O\n".into(),
+    ];
+    // E1F0 goes on to 1D0F; the last two are bad lines.
+    let parts = [("D E1F000\n", "1D0F\n"), ("D 0000\n", "0000\n"), ("D \n", "0200\n"), ("D 12\n", "0200\n")];
+    let without = run(lines.concat());
+    let mut answers = without.lines();
+    let (mut input, mut output) = (String::new(), String::new());
+    for line in &lines {
+        for (part, answer) in parts {
+            input.push_str(part);
+            output.push_str(answer);
+        }
+        input.push_str(line);
+        let printed = match &line[..1] {
+            "X" => 2,
+            "P" | "S" | "K" | "T" | "B" => 0,
+            _ => 1,
+        };
+        for answer in answers.by_ref().take(printed) {
+            output.push_str(answer);
+            output.push('\n');
+        }
+    }
+    assert_eq!(answers.next(), None);
+    assert_eq!(run(input), output);
+}
+
 #[test]
 fn bad_lines() {
     let area = "0100001000000000400000000007";
@@ -573,8 +732,26 @@ fn bad_lines() {
         "F00".into(),
         "f 00".into(),
         "F 0".into(),
-        // A letter of a wish that has not landed.
-        "D FFFF00".into(),
+        // Fewer octets than a start has.
+        "D ".into(),
+        "D FF".into(),
+        "D".into(),
+        "D F".into(),
+        "D FFF".into(),
+        "D FFFF0".into(),
+        "D GFFF".into(),
+        "D FFFF0G".into(),
+        "DFFFF".into(),
+        "d FFFF".into(),
+        " D FFFF".into(),
+        "D  FFFF".into(),
+        "D\tFFFF".into(),
+        "D FFFF 00".into(),
+        "D FFFF00 ".into(),
+        "D FFFF00\r".into(),
+        // Letters that are no commands.
+        "E FFFF00".into(),
+        "G 00".into(),
     ];
     let unchanged = run(format!("{GOOD}M\nO\n"));
     for line in bad {
@@ -618,7 +795,9 @@ fn input_in_pieces_through_a_pipe() {
 
 #[test]
 fn one_line_is_answered_before_more_is_read() {
-    common::answers_at_once(command(), &[("C 0000\n", "1D0F"), (&line('V', AT_THE_START), "01"), ("\n", "0200")]);
+    let question = line('V', AT_THE_START);
+    let lines = [("C 0000\n", "1D0F"), ("D E1F000\n", "1D0F"), (question.as_str(), "01"), ("\n", "0200")];
+    common::answers_at_once(command(), &lines);
 }
 
 #[test]

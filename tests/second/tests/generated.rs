@@ -7,6 +7,8 @@ use std::process::{self, Output};
 
 use second::cases::{self, Command, State};
 use second::clauses::{ALONE, BOTH};
+use second::random::Random;
+use second::sample_parts::{self, IMAGE_PART};
 
 fn run(program: &str, arguments: &[&str]) -> Output {
     process::Command::new(program).args(arguments).output().expect("the program starts")
@@ -21,6 +23,12 @@ fn file(name: &str, octets: &[u8]) -> PathBuf {
 
 fn tally(input: &Path, output: &Path) -> Output {
     run(env!("CARGO_BIN_EXE_tally"), &[&input.to_string_lossy(), &output.to_string_lossy()])
+}
+
+/// The rows of a tally's text that were never reached.
+fn never_reached(tallied: &Output) -> Vec<String> {
+    let text = String::from_utf8_lossy(&tallied.stdout);
+    text.lines().filter_map(|line| line.strip_prefix("NEVER REACHED: ")).map(String::from).collect()
 }
 
 #[test]
@@ -79,6 +87,134 @@ fn a_wrong_answer_to_a_question_is_not_tallied() {
         assert_eq!(tally(&input, &file("question.out", right.as_bytes())).status.code(), Some(1));
         assert_eq!(tally(&input, &file("question.out", wrong.as_bytes())).status.code(), Some(2));
         assert_eq!(tally(&input, &file("question.out", b"0200\n")).status.code(), Some(2));
+    }
+}
+
+/// The rows of single D lines, and of parts before the C line of their whole.
+const OF_LINES: [&str; 5] = ["D from FFFF", "D from 0000", "D from another start", "D of no octets", "D of one octet"];
+const OF_WHOLES: [&str; 8] = [
+    "D: a whole in one part",
+    "D: a whole of 69,998 octets in one part",
+    "D: a whole of 64 KiB in parts",
+    "D: parts of 4,096, the last one short",
+    "D: parts with an empty one first",
+    "D: parts with an empty one in the middle",
+    "D: parts with an empty one last",
+    "D: parts that are all empty",
+];
+
+#[test]
+fn parts_set_nothing_and_are_wanted() {
+    let made = run(env!("CARGO_BIN_EXE_generate"), &["80", "20000"]);
+    let (mut with, mut without) = (State::new(), State::new());
+    let (mut answer, mut answer_without) = (Vec::new(), Vec::new());
+    let [mut no_parts, mut no_parts_out, mut no_wholes, mut no_wholes_out]: [Vec<u8>; 4] = Default::default();
+    let mut parts = 0;
+    for line in made.stdout.split_inclusive(|octet| *octet == b'\n') {
+        let Some(command) = cases::parse(line.strip_suffix(b"\n").unwrap_or(line)) else { continue };
+        answer.clear();
+        with.obey(command.clone(), &mut answer);
+        if !matches!(command, Command::Crc(_)) {
+            no_wholes.extend_from_slice(line);
+            no_wholes_out.extend_from_slice(&answer);
+        }
+        if let Command::CrcFrom { .. } = command {
+            parts += 1;
+            continue;
+        }
+        answer_without.clear();
+        without.obey(command, &mut answer_without);
+        assert!(answer == answer_without);
+        no_parts.extend_from_slice(line);
+        no_parts_out.extend_from_slice(&answer);
+    }
+    assert!(parts > 1_500, "{parts}");
+
+    // Bad lines are no commands, so they are left out of both.
+    let bad = ["bad line", "bad line F of 70,000 octets", "bad line D of no octets", "bad line D of one octet"];
+    let missing = |input: &[u8], output: &[u8]| {
+        let tallied = tally(&file("parts.in", input), &file("parts.out", output));
+        assert_eq!(tallied.status.code(), Some(1));
+        never_reached(&tallied)
+    };
+    assert_eq!(missing(&no_parts, &no_parts_out), [&bad[..], &OF_LINES, &OF_WHOLES].concat());
+    assert_eq!(missing(&no_wholes, &no_wholes_out), [&bad[..], &OF_WHOLES].concat());
+}
+
+/// ABCDEF01 is a published vector; D46A and ED38 are what Python's binascii.crc_hqx gives for the first octets of it.
+#[test]
+fn parts_of_a_whole_are_known_by_the_input() {
+    let [one, _, _, _, first, middle, last, empty] = OF_WHOLES;
+    for (input, output, wholes, row) in [
+        ("D FFFFABCDEF01\nC ABCDEF01", "04A2\n04A2\n", 1, Some(one)),
+        ("D FFFF\nC ", "FFFF\nFFFF\n", 1, Some(one)),
+        ("D FFFFABCD\nD D46AEF01\nC ABCDEF01", "D46A\n04A2\n04A2\n", 1, None),
+        ("D FFFF\nD FFFFABCDEF01\nC ABCDEF01", "FFFF\n04A2\n04A2\n", 1, Some(first)),
+        ("D FFFFABCD\nD D46A\nD D46AEF01\nC ABCDEF01", "D46A\nD46A\n04A2\n04A2\n", 1, Some(middle)),
+        ("D FFFFABCD\nD D46AEF01\nD 04A2\nC ABCDEF01", "D46A\n04A2\n04A2\n04A2\n", 1, Some(last)),
+        ("D FFFF\nD FFFF\nC ", "FFFF\nFFFF\nFFFF\n", 1, Some(empty)),
+        // Other octets on the C line, a first start that is not FFFF, a line between.
+        ("D FFFFABCDEF\nC ABCDEF01", "ED38\n04A2\n", 0, None),
+        ("D FFFFABCDEF01\nC ABCDEF", "04A2\nED38\n", 0, None),
+        ("D 0000\nC ", "0000\nFFFF\n", 0, None),
+        ("D FFFF\nT 000000000000\nC ", "FFFF\nFFFF\n", 0, None),
+        ("D FFFF\nD\nC ", "FFFF\n0200\nFFFF\n", 0, None),
+    ] {
+        let tallied = tally(&file("known.in", input.as_bytes()), &file("known.out", output.as_bytes()));
+        assert_eq!(tallied.status.code(), Some(1), "{input}");
+        let missing: Vec<_> = never_reached(&tallied).into_iter().filter(|row| row.starts_with("D:")).collect();
+        let expected: Vec<_> = OF_WHOLES.into_iter().filter(|other| Some(*other) != row).collect();
+        assert_eq!(missing, expected, "{input}");
+        let text = String::from_utf8_lossy(&tallied.stdout);
+        assert!(text.contains(&format!(", {wholes} wholes in parts\n")), "{input}\n{text}");
+    }
+}
+
+#[test]
+fn parts_that_do_not_give_the_whole_are_not_tallied() {
+    let in_turn = "D FFFFABCD\nD D46AEF01\nC ABCDEF01";
+    let empty = "D FFFFABCDEF01\nD 04A2\nC ABCDEF01";
+    let rows = [
+        (in_turn, "D46A\n04A2\n04A2\n", "D46A\n04A3\n04A2\n"),
+        (in_turn, "D46A\n04A2\n04A2\n", "D46A\n04A2\n04A3\n"),
+        // The second part goes on from another value than the first one gave.
+        (in_turn, "D46A\n04A2\n04A2\n", "D46B\n04A2\n04A2\n"),
+        (in_turn, "D46A\n04A2\n04A2\n", "FFFF\n04A2\n04A2\n"),
+        (empty, "04A2\n04A2\n04A2\n", "04A2\nFFFF\n04A2\n"),
+        (empty, "04A2\n04A2\n04A2\n", "FB5D\n04A2\n04A2\n"),
+        ("D FFFF\nC ", "FFFF\nFFFF\n", "0000\nFFFF\n"),
+        // Another form.
+        ("D FFFF00", "E1F0\n", "e1f0\n"),
+        ("D FFFF00", "E1F0\n", "E1F0 \n"),
+        ("D FFFF00", "E1F0\n", "1F0\n"),
+        ("D FFFF00", "E1F0\n", "00E1F0\n"),
+        ("D FFFF00", "E1F0\n", "\n"),
+        ("D FFFF00", "E1F0\n", ""),
+        ("D FFFF00", "E1F0\n", "E1F0\nE1F0\n"),
+        ("C 00", "E1F0\n", "e1f0\n"),
+        ("D FF", "0200\n", "FF00\n"),
+        ("D ", "0200\n", "FFFF\n"),
+    ];
+    for (input, right, wrong) in rows {
+        let input = file("parts-answer.in", input.as_bytes());
+        assert_eq!(tally(&input, &file("parts-answer.out", right.as_bytes())).status.code(), Some(1), "{right}");
+        assert_eq!(tally(&input, &file("parts-answer.out", wrong.as_bytes())).status.code(), Some(2), "{wrong}");
+    }
+}
+
+#[test]
+fn parts_make_up_the_whole() {
+    let mut random = Random::new(81);
+    for number in 0..2_000 {
+        let cuts = number % 9;
+        let whole = random.octets(number % 50);
+        let parts = sample_parts::divided(&mut random, &whole, cuts);
+        assert_eq!(parts.concat(), whole);
+        assert!((cuts + 1..=cuts + 4).contains(&parts.len()), "{} of {cuts} cuts", parts.len());
+        if number % 100 == 0 {
+            let image = sample_parts::image(&mut random);
+            assert!((IMAGE_PART + 1..4 * IMAGE_PART).contains(&image.len()) && !image.len().is_multiple_of(IMAGE_PART));
+        }
     }
 }
 

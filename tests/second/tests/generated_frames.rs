@@ -352,7 +352,8 @@ fn frames_of_cases_set_nothing_and_are_wanted() {
         missing
     };
     // Bad lines are no commands, so they are left out of both.
-    let mut expected = ["bad line", "bad line F of 70,000 octets"].map(String::from).to_vec();
+    let bad = ["bad line", "bad line D of no octets", "bad line D of one octet", "bad line F of 70,000 octets"];
+    let mut expected = bad.map(String::from).to_vec();
     assert_eq!(missing(&with), expected);
     expected.extend(frame_rows::wanted().into_iter().map(|row| format!("F {row}")));
     expected.extend(["F no octets", "F 65,542 octets", "F above 65,542 octets"].map(String::from));

@@ -1,23 +1,22 @@
--- `crc::crc` meets its contract. The loop's invariant: the CRC of all the octets is what the octets left take the register to.
+-- `crc::crc` meets its contract. The loop's invariant: from the start all the octets give what from the register the octets left give.
 -- Assumes nothing.
 use mathlib.Core.Path.{_≡_, refl, sym, _∙_}
 use mathlib.Core.List.{List}
 use Prim.Native.Nat.{ℕ, _+_, _-_, _≤_}
 use lib.ListN.{length, drop, drop-of-length-le}
-use Rattle.crc.specs.Register.{crcFrom, crcOf}
+use Rattle.crc.specs.Register.{crcFrom}
 use borrow.Author.Needs.{needs}
 use Rattle.crc.proofs.Laws.{crcFrom-drop}
 use Rattle.crc.proofs.crc.Statement.{statement}
 use Rattle.crc.proofs.crc.Tie as tie
 
 abbrev Inv-loop : tie.InvT-loop
-Inv-loop octets register₀ i₀ register i = (i ≤ length octets) × (crcOf octets ≡ crcFrom register (drop i octets))
+Inv-loop start octets register₀ i₀ register i = (i ≤ length octets) × (crcFrom start octets ≡ crcFrom register (drop i octets))
 
 abbrev μ-loop : tie.MeasureT-loop
-μ-loop octets register₀ i₀ register i = length octets - i
+μ-loop start octets register₀ i₀ register i = length octets - i
 
 loop-holds : tie.Need-loop-holds Inv-loop μ-loop
-unfolding crcOf
 loop-holds c = (search needs, refl)
 
 shared-slice-read-take-octet : tie.Need-shared-slice-read-take-octet Inv-loop μ-loop

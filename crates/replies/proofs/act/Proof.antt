@@ -107,23 +107,29 @@ control-requires c κs = search needs
 gives-requires-10 : tie.Need-gives-requires-10
 gives-requires-10 c κs = search needs
 
-wider-requires : tie.Need-wider-requires
-wider-requires c κs = search needs
+control-from-requires : tie.Need-control-from-requires
+control-from-requires c κs = search needs
 
 gives-requires-11 : tie.Need-gives-requires-11
 gives-requires-11 c κs = search needs
 
-put-read-requires : tie.Need-put-read-requires
-put-read-requires c κs = search needs
+wider-requires : tie.Need-wider-requires
+wider-requires c κs = search needs
 
 gives-requires-12 : tie.Need-gives-requires-12
 gives-requires-12 c κs = search needs
 
-refuse-requires : tie.Need-refuse-requires
-refuse-requires c κs = search needs
+put-read-requires : tie.Need-put-read-requires
+put-read-requires c κs = search needs
 
 gives-requires-13 : tie.Need-gives-requires-13
 gives-requires-13 c κs = search needs
+
+refuse-requires : tie.Need-refuse-requires
+refuse-requires c κs = search needs
+
+gives-requires-14 : tie.Need-gives-requires-14
+gives-requires-14 c κs = search needs
 
 same-length : tie.Need-same-length
 same-length c = search needs
@@ -263,7 +269,7 @@ unfolding does
 returns-12 c =
     let f = c .before .before .before in
     let k = f .before .before in
-    meets (k .before .before .before .before .before) (rw (k .match .keys12) refl) (prints (c .gives11 .ensures) (f .wider .ensures))
+    meets (k .before .before .before .before .before) (rw (k .match .keys12) refl) (prints (c .gives11 .ensures) (f .control-from .ensures))
 
 same-length-19 : tie.Need-same-length-19
 same-length-19 c = search needs
@@ -273,7 +279,7 @@ unfolding does
 returns-13 c =
     let f = c .before .before .before in
     let k = f .before .before in
-    meets (k .before .before .before .before .before) (rw (k .match .keys13) refl) (prints (c .gives12 .ensures) (f .put-read .ensures))
+    meets (k .before .before .before .before .before) (rw (k .match .keys13) refl) (prints (c .gives12 .ensures) (f .wider .ensures))
 
 same-length-20 : tie.Need-same-length-20
 same-length-20 c = search needs
@@ -283,8 +289,19 @@ unfolding does
 returns-14 c =
     let f = c .before .before .before in
     let k = f .before .before in
+    meets (k .before .before .before .before .before) (rw (k .match .keys14) refl) (prints (c .gives13 .ensures) (f .put-read .ensures))
+
+same-length-21 : tie.Need-same-length-21
+same-length-21 c = search needs
+
+returns-15 : tie.Need-returns-15
+unfolding does
+returns-15 c =
+    let f = c .before .before .before in
+    let k = f .before .before in
     meets (k .before .before .before .before .before)
     (simp (
+      ne-eqb _ _ (k .match .rest .0 .0 .0 .0 .0 .0 .0 .0 .0 .0 .0 .0 .0 .1),
       ne-eqb _ _ (k .match .rest .0 .0 .0 .0 .0 .0 .0 .0 .0 .0 .0 .0 .1),
       ne-eqb _ _ (k .match .rest .0 .0 .0 .0 .0 .0 .0 .0 .0 .0 .0 .1),
       ne-eqb _ _ (k .match .rest .0 .0 .0 .0 .0 .0 .0 .0 .0 .0 .1),
@@ -299,7 +316,7 @@ returns-14 c =
       ne-eqb _ _ (k .match .rest .0 .1),
       ne-eqb _ _ (k .match .rest .1),
     ))
-    (prints (c .gives13 .ensures) (f .refuse .ensures))
+    (prints (c .gives14 .ensures) (f .refuse .ensures))
 
 pub act-spec : {M : Type 1} → statement M
 act-spec =
@@ -333,12 +350,14 @@ act-spec =
     gives-requires-9
     control-requires
     gives-requires-10
-    wider-requires
+    control-from-requires
     gives-requires-11
-    put-read-requires
+    wider-requires
     gives-requires-12
-    refuse-requires
+    put-read-requires
     gives-requires-13
+    refuse-requires
+    gives-requires-14
     same-length
     returns
     same-length-2
@@ -372,4 +391,6 @@ act-spec =
     same-length-19
     returns-13
     same-length-20
-    returns-14)
+    returns-14
+    same-length-21
+    returns-15)

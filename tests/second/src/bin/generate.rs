@@ -1,23 +1,29 @@
 //! `generate SEED PACKETS` writes input for `cases`: maps, stores, counts, times and buffers of
-//! every kind, and under them packets, frames, other commands and bad lines.
+//! every kind, and under them packets, frames, octets in parts, other commands and bad lines.
 
 use std::io::{self, BufWriter, Write};
 use std::process::ExitCode;
 
+use second::crc::{crc, START};
 use second::frame_causes::Aims;
 use second::hex;
-use second::map::{Area, Flags, Profile, Rights, AREA_PLACES};
+use second::map::{Area, Flags, Profile, Rights, AREA_PLACES, LONGEST_STORE};
 use second::program;
 use second::random::Random;
 use second::sample;
 use second::sample_frame;
 use second::sample_map::{self, Map, CLAUSES};
+use second::sample_parts::{self, IMAGE_PART};
 use second::sample_wider;
 
 const LONG_PACKETS: [usize; 3] = [65_535, 65_536, 69_999];
 /// The longest that a length field can announce, one whose length field would be right if it wrapped, the longest that
 /// a line takes, and one that makes the line bad.
 const LONG_FRAMES: [usize; 4] = [65_542, 65_543, 69_999, 70_000];
+/// The most octets that a D line takes behind its start.
+const LONGEST_PART: usize = 69_998;
+/// So many packets stand between the long D lines.
+const BETWEEN_LONG_PARTS: u64 = 10_000;
 /// Stores above this many octets are seldom shown.
 const SMALL_STORE: usize = 1_024;
 
@@ -28,6 +34,7 @@ struct Generator<W: Write> {
     wanted: u64,
     long_packets: usize,
     next_long_packet: u64,
+    next_long_parts: u64,
     /// The profile that stands, and the octets of the store.
     standing: Profile,
     store_octets: usize,
@@ -48,6 +55,7 @@ fn main() -> ExitCode {
         wanted,
         long_packets: 0,
         next_long_packet: 200,
+        next_long_parts: 300,
         standing: second::hexline::profile(),
         store_octets: 128,
         aims: Aims::new(),
@@ -265,6 +273,7 @@ impl<W: Write> Generator<W> {
             self.any_packet(profile)?;
             self.perhaps_ask()?;
             self.perhaps_read_frame()?;
+            self.perhaps_check_parts()?;
             self.among_packets(profile)?;
         }
         self.line(b"M", None)
@@ -304,6 +313,66 @@ impl<W: Write> Generator<W> {
             _ => return Ok(()),
         };
         self.line(b"F", Some(&frame))
+    }
+
+    /// Has octets checked in parts now and then: mostly few octets, seldom more, the longest after so many packets.
+    fn perhaps_check_parts(&mut self) -> io::Result<()> {
+        if self.packets >= self.next_long_parts {
+            self.next_long_parts += BETWEEN_LONG_PARTS;
+            return self.long_parts();
+        }
+        let octets = match self.random.below(1_200) {
+            0..=3 => self.random.below(3),
+            4..=18 => self.random.below(120),
+            19 => self.random.below(9_000),
+            _ => return Ok(()),
+        };
+        let whole = self.random.octets(octets as usize);
+        let cuts = self.random.below(7) as usize;
+        let parts = sample_parts::divided(&mut self.random, &whole, cuts);
+        self.in_parts(&parts)
+    }
+
+    /// As many octets as the largest store has in parts, an image in parts as a harness holds them, the longest part,
+    /// and D lines that are too short for a start, which are bad.
+    fn long_parts(&mut self) -> io::Result<()> {
+        let whole = self.random.octets(LONGEST_STORE);
+        let cuts = self.random.between(1, 12) as usize;
+        let parts = sample_parts::divided(&mut self.random, &whole, cuts);
+        self.in_parts(&parts)?;
+        let image = sample_parts::image(&mut self.random);
+        let parts: Vec<_> = image.chunks(IMAGE_PART).collect();
+        self.in_parts(&parts)?;
+        let longest = self.random.octets(LONGEST_PART);
+        self.in_parts(&[&longest])?;
+        let upper = self.random.octet();
+        self.line(b"D", Some(&[upper]))?;
+        self.line(b"D", Some(&[]))
+    }
+
+    /// A D line for each part, from the value that the one before has to give, and the C line of the whole.
+    fn in_parts(&mut self, parts: &[&[u8]]) -> io::Result<()> {
+        let mut value = START;
+        for part in parts {
+            self.part(value, part)?;
+            value = crc(value, part);
+        }
+        self.line(b"C", Some(&parts.concat()))
+    }
+
+    fn part(&mut self, start: u16, octets: &[u8]) -> io::Result<()> {
+        let octets = [&start.to_be_bytes()[..], octets].concat();
+        self.line(b"D", Some(&octets))
+    }
+
+    /// A part from any start.
+    fn any_part(&mut self) -> io::Result<()> {
+        let any = self.random.any() as u16;
+        let start = self.random.pick(&[START, 0, any, any]);
+        let many = self.random.below(300) as usize;
+        let count = self.random.pick(&[0, 1, 2, many, many]);
+        let octets = self.random.octets(count);
+        self.part(start, &octets)
     }
 
     /// Places that are all zero are not given where no other follows.
@@ -359,6 +428,7 @@ impl<W: Write> Generator<W> {
                 self.buffer(length)
             }
             88..=90 if self.store_octets <= SMALL_STORE => self.store(self.store_octets),
+            91..=98 => self.any_part(),
             _ => Ok(()),
         }
     }
@@ -440,7 +510,7 @@ impl<W: Write> Generator<W> {
 
     /// A line that is none of the commands.
     fn bad_line(&mut self) -> io::Result<()> {
-        let text: &[u8] = match self.random.below(67) {
+        let text: &[u8] = match self.random.below(78) {
             0 => b"",
             1 => b" ",
             2 => b"X",
@@ -505,11 +575,22 @@ impl<W: Write> Generator<W> {
             61 => b"F0859C000000900000000000000110200",
             62 => b"f 0859C000000900000000000000110200",
             63 => b"F 0859C00000090000000000000011020",
-            64 => return self.long_bad_line(),
+            64 => b"D",
+            65 => b"D ",
+            66 => b"D FF",
+            67 => b"D FFF",
+            68 => b"D FFFF0",
+            69 => b"D FFFG",
+            70 => b"DFFFF00",
+            71 => b"d FFFF00",
+            72 => b"D  FFFF00",
+            73 => b"D FFFF 00",
+            74 => b"D FFFF00 ",
+            75 => return self.long_bad_line(),
             last => {
                 let mut octets = profile_octets(&second::hexline::profile(), 8);
                 octets.extend_from_slice(&[0; 14]);
-                return self.line(if last == 65 { b"P" } else { b"V" }, Some(&octets));
+                return self.line(if last == 76 { b"P" } else { b"V" }, Some(&octets));
             }
         };
         self.output.write_all(text)?;
@@ -522,7 +603,8 @@ impl<W: Write> Generator<W> {
             0 => self.line(b"S", Some(&[0x5A; 65_601])),
             1 => self.line(b"X", Some(&[0x18; 70_000])),
             2 => self.line(b"C", Some(&[0x11; 70_001])),
-            3 => {
+            3 => self.line(b"D", Some(&[0x22; 70_001])),
+            4 => {
                 self.output.write_all(b"C ")?;
                 self.output.write_all(&[b'7'; 140_001])?;
                 self.output.write_all(b"\n")

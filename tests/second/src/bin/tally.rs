@@ -1,15 +1,21 @@
-//! `tally INPUT OUTPUT` pairs the X, V and F lines of a `cases` input with their answers and counts how often
-//! each verdict and kind of detail was reached, each clause of wider and each cause of a frame's refusal. It ends
-//! with 1 if one of the fixed list never was.
+//! `tally INPUT OUTPUT` pairs the X, V, F and D lines of a `cases` input with their answers and counts how often
+//! each verdict and kind of detail was reached, each clause of wider, each cause of a frame's refusal and each kind
+//! of parts. It ends with 1 if one of the fixed list never was.
+//!
+//! Parts of a whole are known by the input alone: D lines directly one behind another, the first from FFFF, and
+//! directly behind them the C line of all their octets. Then each start has to be the value printed before it, and
+//! the last value the whole's, or the tally ends with 2.
 
 use std::collections::BTreeMap;
 use std::env;
 use std::fs::File;
 use std::io::{self, BufRead, BufReader, Write};
+use std::mem;
 use std::process::ExitCode;
 
 use second::cases::{self, Command, State, LONGEST_LINE};
 use second::clauses::{self, Clause};
+use second::crc::START;
 use second::frame_causes;
 use second::frame_rows;
 use second::hex;
@@ -27,8 +33,27 @@ const TOO_LONG: &str = "bad line F of 70,000 octets";
 const NO_OCTETS: &str = "no octets";
 const ANNOUNCED_FFFF: &str = "65,542 octets";
 const ABOVE_ANNOUNCED: &str = "above 65,542 octets";
+/// The octets that a harness holds at a time, and those of the longest D line without its start.
+const IMAGE_PART: usize = 4_096;
+const LONGEST_PART: usize = 69_998;
+const FROM_START: &str = "D from FFFF";
+const FROM_ZERO: &str = "D from 0000";
+const FROM_ANOTHER: &str = "D from another start";
+const PART_OF_NONE: &str = "D of no octets";
+const PART_OF_ONE: &str = "D of one octet";
+const BAD_OF_NONE: &str = "bad line D of no octets";
+const BAD_OF_ONE: &str = "bad line D of one octet";
+const IN_ONE: &str = "D: a whole in one part";
+const LONGEST_IN_ONE: &str = "D: a whole of 69,998 octets in one part";
+const EMPTY_FIRST: &str = "D: parts with an empty one first";
+const EMPTY_BETWEEN: &str = "D: parts with an empty one in the middle";
+const EMPTY_LAST: &str = "D: parts with an empty one last";
+const ALL_EMPTY: &str = "D: parts that are all empty";
+const STORE_IN_PARTS: &str = "D: a whole of 64 KiB in parts";
+const IMAGE_IN_PARTS: &str = "D: parts of 4,096, the last one short";
 
-/// How often each kind was reached; and the packets, the maps, the V lines and the F lines.
+/// How often each kind was reached; and the packets, the maps, the V lines, the F lines, the D lines, and the wholes
+/// of which D lines were the parts.
 #[derive(Default)]
 struct Tally {
     kinds: BTreeMap<String, u64>,
@@ -36,6 +61,15 @@ struct Tally {
     maps: u64,
     questions: u64,
     frames: u64,
+    parts: u64,
+    wholes: u64,
+}
+
+/// A D line and the value printed for it.
+struct Part {
+    start: u16,
+    octets: Vec<u8>,
+    value: u16,
 }
 
 /// The second line of an answer.
@@ -62,8 +96,9 @@ fn main() -> ExitCode {
 
 fn report(tally: &Tally) -> ExitCode {
     let missing: Vec<_> = wanted().into_iter().filter(|kind| !tally.kinds.contains_key(kind)).collect();
-    let Tally { packets, maps, questions, frames, .. } = tally;
-    let mut text = format!("{packets} packets, {maps} maps, {questions} questions, {frames} frames\n");
+    let Tally { packets, maps, questions, frames, parts, wholes, .. } = tally;
+    let mut text = format!("{packets} packets, {maps} maps, {questions} questions, {frames} frames, ");
+    text.push_str(&format!("{parts} parts, {wholes} wholes in parts\n"));
     for (kind, times) in &tally.kinds {
         text.push_str(&format!("{times:9}  {kind}\n"));
     }
@@ -80,8 +115,10 @@ fn report(tally: &Tally) -> ExitCode {
 fn count(mut input: impl BufRead, mut output: impl BufRead) -> io::Result<Tally> {
     let mut tally = Tally::default();
     let mut state = State::new();
+    let mut parts = Vec::new();
     while let Some(line) = next_line(&mut input)? {
         let command = if line.len() <= LONGEST_LINE { cases::parse(&line) } else { None };
+        let mut parts_before = mem::take(&mut parts);
         match command {
             Some(Command::SetProfile(profile)) => {
                 state.profile = profile;
@@ -113,6 +150,24 @@ fn count(mut input: impl BufRead, mut output: impl BufRead) -> io::Result<Tally>
                     *tally.kinds.entry(kind).or_default() += 1;
                 }
             }
+            Some(Command::CrcFrom { start, octets }) => {
+                let value = check_value(&wanted_line(&mut output)?)?;
+                tally.parts += 1;
+                for kind in part_kinds(start, &octets) {
+                    *tally.kinds.entry(kind.into()).or_default() += 1;
+                }
+                parts_before.push(Part { start, octets, value });
+                parts = parts_before;
+            }
+            Some(Command::Crc(octets)) => {
+                let value = check_value(&wanted_line(&mut output)?)?;
+                if is_whole(&parts_before, &octets) {
+                    tally.wholes += 1;
+                    for kind in whole_kinds(&parts_before, value)? {
+                        *tally.kinds.entry(kind.into()).or_default() += 1;
+                    }
+                }
+            }
             Some(_) => {
                 wanted_line(&mut output)?;
             }
@@ -121,8 +176,8 @@ fn count(mut input: impl BufRead, mut output: impl BufRead) -> io::Result<Tally>
                     return Err(io::Error::other("a bad line was not answered 0200"));
                 }
                 *tally.kinds.entry("bad line".into()).or_default() += 1;
-                if line.starts_with(b"F ") && line.len() == TOO_LONG_FOR_F {
-                    *tally.kinds.entry(TOO_LONG.into()).or_default() += 1;
+                if let Some(kind) = bad_kind(&line) {
+                    *tally.kinds.entry(kind.into()).or_default() += 1;
                 }
             }
         }
@@ -146,6 +201,82 @@ fn next_line(stream: &mut impl BufRead) -> io::Result<Option<Vec<u8>>> {
 
 fn wanted_line(stream: &mut impl BufRead) -> io::Result<Vec<u8>> {
     next_line(stream)?.ok_or_else(|| io::Error::other("the output ends too early"))
+}
+
+/// The kind of a bad line that is wanted apart.
+fn bad_kind(line: &[u8]) -> Option<&'static str> {
+    match line {
+        [b'F', b' ', ..] if line.len() == TOO_LONG_FOR_F => Some(TOO_LONG),
+        b"D " => Some(BAD_OF_NONE),
+        [b'D', b' ', upper, lower] if hex::read(&[*upper, *lower]).is_some() => Some(BAD_OF_ONE),
+        _ => None,
+    }
+}
+
+/// Reads the four digits of a CRC, which are in upper case.
+fn check_value(line: &[u8]) -> io::Result<u16> {
+    match hex::read(line).as_deref() {
+        Some([upper, lower]) if !line.iter().any(u8::is_ascii_lowercase) => Ok(u16::from_be_bytes([*upper, *lower])),
+        _ => Err(io::Error::other("the answer of a C or D line has another form")),
+    }
+}
+
+/// The kinds that one D line counts for.
+fn part_kinds(start: u16, octets: &[u8]) -> Vec<&'static str> {
+    let from = match start {
+        START => FROM_START,
+        0 => FROM_ZERO,
+        _ => FROM_ANOTHER,
+    };
+    let size = match octets.len() {
+        0 => Some(PART_OF_NONE),
+        1 => Some(PART_OF_ONE),
+        _ => None,
+    };
+    [from].into_iter().chain(size).collect()
+}
+
+/// Whether the octets of a C line are those of the D lines directly before it, of which the first is from FFFF.
+fn is_whole(parts: &[Part], octets: &[u8]) -> bool {
+    let joined = parts.iter().flat_map(|part| &part.octets);
+    parts.first().is_some_and(|part| part.start == START) && joined.eq(octets)
+}
+
+/// The kinds that the parts of a whole count for. Each has to go on from the value of the one before it, and the last
+/// has to give the value of the whole.
+fn whole_kinds(parts: &[Part], value: u16) -> io::Result<Vec<&'static str>> {
+    if parts.windows(2).any(|pair| pair[1].start != pair[0].value) {
+        return Err(io::Error::other("a part of a whole does not go on from the value of the part before it"));
+    }
+    if parts.last().map(|part| part.value) != Some(value) {
+        return Err(io::Error::other("the parts taken in turn do not give the CRC of the whole"));
+    }
+    let lengths: Vec<usize> = parts.iter().map(|part| part.octets.len()).collect();
+    let whole: usize = lengths.iter().sum();
+    let held = |length: &usize| *length > 0;
+    let (first, last) = (lengths.iter().position(held), lengths.iter().rposition(held));
+    let between = first.zip(last).is_some_and(|(first, last)| lengths[first..last].contains(&0));
+    let checks = [
+        (lengths.len() == 1, IN_ONE),
+        (lengths == [LONGEST_PART], LONGEST_IN_ONE),
+        (first > Some(0), EMPTY_FIRST),
+        (between, EMPTY_BETWEEN),
+        (whole > 0 && lengths.last() == Some(&0), EMPTY_LAST),
+        (whole == 0 && lengths.len() > 1, ALL_EMPTY),
+        (first < last && whole == LONGEST_STORE, STORE_IN_PARTS),
+        (is_image(&lengths), IMAGE_IN_PARTS),
+    ];
+    Ok(checks.iter().filter(|(holds, _)| *holds).map(|(_, kind)| *kind).collect())
+}
+
+/// Parts as a harness holds them: all full but the last, which is short.
+fn is_image(lengths: &[usize]) -> bool {
+    match lengths {
+        [full @ .., last] if !full.is_empty() => {
+            full.iter().all(|length| *length == IMAGE_PART) && (1..IMAGE_PART).contains(last)
+        }
+        _ => false,
+    }
 }
 
 /// Reads `0000 0000 0038 0002 0001` or `0102 0167 0018 0003 0001`.
@@ -389,6 +520,8 @@ fn wanted() -> Vec<String> {
     let others = [
         "bad line",
         TOO_LONG,
+        BAD_OF_NONE,
+        BAD_OF_ONE,
         "refused 40 ",
         "refused 41 PID",
         "refused 41 area count",
@@ -445,5 +578,8 @@ fn wanted() -> Vec<String> {
     wanted.extend(wider.map(|kind| format!("V 01 {kind}")));
     wanted.extend(frame_rows::wanted().into_iter().map(frame_kind));
     wanted.extend([NO_OCTETS, ANNOUNCED_FFFF, ABOVE_ANNOUNCED].map(|row| frame_kind(row.into())));
+    wanted.extend([FROM_START, FROM_ZERO, FROM_ANOTHER, PART_OF_NONE, PART_OF_ONE].map(String::from));
+    wanted.extend([IN_ONE, LONGEST_IN_ONE, STORE_IN_PARTS, IMAGE_IN_PARTS].map(String::from));
+    wanted.extend([EMPTY_FIRST, EMPTY_BETWEEN, EMPTY_LAST, ALL_EMPTY].map(String::from));
     wanted
 }

@@ -13,7 +13,7 @@ use std::sync::mpsc;
 use std::thread;
 use std::time::Duration;
 
-use second::crc::crc;
+use second::crc::{crc, START};
 use second::hexline;
 use second::map::{Area, Flags, Profile, Rights};
 use second::refusal::Refusal;
@@ -93,7 +93,7 @@ pub fn hex(text: &str) -> Vec<u8> {
 /// The octets and their error control after them.
 pub fn sealed(text: &str) -> Vec<u8> {
     let mut octets = hex(text);
-    let error_control = crc(&octets);
+    let error_control = crc(START, &octets);
     octets.extend_from_slice(&error_control.to_be_bytes());
     octets
 }

@@ -1,8 +1,8 @@
--- `showing::control` meets its contract.
+-- `showing::put_value` meets its contract.
 -- Assumes nothing.
 use borrow.Author.Needs.{needs}
-use Rattle.showing.proofs.control.Statement.{statement}
-use Rattle.showing.proofs.control.Tie as tie
+use Rattle.showing.proofs.put_value.Statement.{statement}
+use Rattle.showing.proofs.put_value.Tie as tie
 
 crc-requires : tie.Need-crc-requires
 crc-requires c κs = search needs
@@ -25,8 +25,8 @@ returns c =
     let o = k .before .before .before in
     rw (o .octets-of16 .ensures, o .before .crc .ensures) at (k .line .ensures)
 
-pub control-spec : {M : Type 1} → statement M
-control-spec =
+pub put-value-spec : {M : Type 1} → statement M
+put-value-spec =
     tie.close
     (tie.spec
     crc-requires

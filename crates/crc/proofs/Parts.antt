@@ -1,0 +1,43 @@
+-- Octets that come in parts: the one law, that no other function meets it, and wrong ones that do not.
+-- Assumes nothing.
+use mathlib.Core.Path.{_≡_, refl, sym, ap, _∙_}
+use mathlib.Core.List.{List, [], _∷_, append-nil}
+use Prim.Native.Nat.{ℕ, _<_}
+use native.Mathlib.Omega.{arith}
+use Rattle.laws.specs.Fold.{reached, joined}
+use Rattle.crc.specs.Register.{crcFrom}
+use Rattle.crc.specs.Division.{sequenceFrom}
+use Rattle.crc.specs.Parts.{TakesParts, IgnoresStart, Complements, StartsAnew}
+use Rattle.crc.proofs.Laws.{crcFrom-append}
+use Rattle.crc.proofs.Division.{from-is-division}
+
+-- The parts in turn give the CRC of the whole.
+pub parts-whole : (start : ℕ) (parts : List (List ℕ)) → reached crcFrom start parts ≡ crcFrom start (joined parts)
+unfolding reached joined crcFrom
+parts-whole start [] = refl
+parts-whole start (part ∷ rest) = parts-whole (crcFrom start part) rest ∙ sym (crcFrom-append start part (joined rest))
+
+pub takes-parts : TakesParts crcFrom
+takes-parts start parts h = parts-whole start parts ∙ from-is-division start (joined parts) h
+
+module _ (f : ℕ → List ℕ → ℕ) (law : TakesParts f) where
+  -- Whatever meets the law is that CRC, from every start of sixteen bits.
+  pub no-other : (start : ℕ) (xs : List ℕ) → start < 65536 → f start xs ≡ crcFrom start xs
+  unfolding reached joined
+  no-other start xs h =
+      law start (xs ∷ []) h ∙ ap (sequenceFrom start) (append-nil xs) ∙ sym (from-is-division start xs h)
+
+  -- Of no octets it gives its start.
+  of-none : (start : ℕ) → start < 65536 → f start [] ≡ start
+  unfolding crcFrom
+  of-none start h = no-other start [] h
+
+  pub ignoring-fails : IgnoresStart f → ⊥
+  ignoring-fails same = absurd (omega (arith, of-none 0 (omega arith), of-none 1 (omega arith), same 0 1 []))
+
+  pub complementing-fails : Complements f → ⊥
+  unfolding crcFrom
+  complementing-fails c = absurd (omega (arith, of-none 0 (omega arith), c 0 []))
+
+  pub anew-fails : StartsAnew f → ⊥
+  anew-fails anew = absurd (omega (arith, of-none 0 (omega arith), anew .none 0))
