@@ -40,4 +40,4 @@ module _ (f : ℕ → List ℕ → ℕ) (law : TakesParts f) where
   complementing-fails c = absurd (omega (arith, of-none 0 (omega arith), c 0 []))
 
   pub anew-fails : StartsAnew f → ⊥
-  anew-fails anew = absurd (omega (arith, of-none 0 (omega arith), anew .none 0))
+  anew-fails anew = absurd (omega (arith, of-none 0 (omega arith), anew 0))

@@ -1,6 +1,6 @@
 -- Document 02, wish 8: check values over octets that come in parts, and wrong ways to give them.
 use mathlib.Core.Path.{_≡_}
-use mathlib.Core.List.{List, [], _∷_}
+use mathlib.Core.List.{List, []}
 use Prim.Native.Nat.{ℕ, _-_, _<_}
 use Rattle.laws.specs.Fold.{reached, joined}
 use Rattle.crc.specs.Register.{allOnes, crcFrom}
@@ -18,7 +18,6 @@ IgnoresStart f = (start other : ℕ) (xs : List ℕ) → f start xs ≡ f other 
 abbrev pub Complements : (ℕ → List ℕ → ℕ) → Type 0
 Complements f = (start : ℕ) (xs : List ℕ) → f start xs ≡ allOnes - crcFrom start xs
 
--- Starts anew at a part of no octets, and is right about every other.
-pub record StartsAnew (f : ℕ → List ℕ → ℕ) : Type 0 where
-  pub none : (start : ℕ) → f start [] ≡ allOnes
-  pub some : (start x : ℕ) (xs : List ℕ) → f start (x ∷ xs) ≡ crcFrom start (x ∷ xs)
+-- Starts anew at a part of no octets.
+abbrev pub StartsAnew : (ℕ → List ℕ → ℕ) → Type 0
+StartsAnew f = (start : ℕ) → f start [] ≡ allOnes
