@@ -23,10 +23,6 @@ unfolding crcFrom
 crcFrom-append r [] ys = refl
 crcFrom-append r (x ∷ xs) ys = crcFrom-append (takeBits r (bitsOf x)) xs ys
 
--- The CRC of two parts is that of the second from where the first left the register.
-pub crc-append : (xs ys : List ℕ) → crcOf (xs ++ ys) ≡ crcFrom (crcOf xs) ys
-crc-append xs ys = crcFrom-append allOnes xs ys
-
 -- One octet of a list is taken, and the rest is left.
 pub crcFrom-drop : (r : ℕ) (xs : List ℕ) (i : ℕ) → i < length xs
     → crcFrom r (drop i xs) ≡ crcFrom (takeBits r (bitsOf (getD xs i 0))) (drop (i + 1) xs)
@@ -105,8 +101,10 @@ takeBits-own r h =
     p : List Bool
     p = presetOf r
 
--- A list followed by its own CRC, the high octet first, has the CRC 0.
-pub crc-own : (xs : List ℕ) → crcOf (xs ++ (crcOf xs / 256 ∷ crcOf xs % 256 ∷ [])) ≡ 0
+-- A list followed by its own CRC, the high octet first, has the CRC 0, from any start of sixteen bits.
+pub crc-own : (start : ℕ) (xs : List ℕ) → start < 65536
+    → crcFrom start (xs ++ (crcFrom start xs / 256 ∷ crcFrom start xs % 256 ∷ [])) ≡ 0
 unfolding crcFrom takeBits
-crc-own xs =
-    crc-append xs (crcOf xs / 256 ∷ crcOf xs % 256 ∷ []) ∙ takeBits-own (crcOf xs) (crc-lt xs)
+crc-own start xs h =
+    crcFrom-append start xs (crcFrom start xs / 256 ∷ crcFrom start xs % 256 ∷ [])
+    ∙ takeBits-own (crcFrom start xs) (crcFrom-lt start xs h)

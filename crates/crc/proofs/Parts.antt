@@ -1,11 +1,12 @@
 -- Octets that come in parts: the one law, that no other function meets it, and wrong ones that do not.
 -- Assumes nothing.
 use mathlib.Core.Path.{_≡_, refl, sym, ap, _∙_}
+use mathlib.Core.Bool.{xor}
 use mathlib.Core.List.{List, [], _∷_, append-nil}
 use Prim.Native.Nat.{ℕ, _<_}
 use native.Mathlib.Omega.{arith}
 use Rattle.laws.specs.Fold.{reached, joined}
-use Rattle.crc.specs.Register.{crcFrom}
+use Rattle.crc.specs.Register.{takeBit, takeBits, crcFrom}
 use Rattle.crc.specs.Division.{sequenceFrom}
 use Rattle.crc.specs.Parts.{TakesParts, IgnoresStart, Complements, StartsAnew}
 use Rattle.crc.proofs.Laws.{crcFrom-append}
@@ -27,17 +28,16 @@ module _ (f : ℕ → List ℕ → ℕ) (law : TakesParts f) where
   no-other start xs h =
       law start (xs ∷ []) h ∙ ap (sequenceFrom start) (append-nil xs) ∙ sym (from-is-division start xs h)
 
-  -- Of no octets it gives its start.
-  of-none : (start : ℕ) → start < 65536 → f start [] ≡ start
-  unfolding crcFrom
-  of-none start h = no-other start [] h
-
+  -- A zero octet leaves a register of 0 as it is, and one of 1 with another value.
   pub ignoring-fails : IgnoresStart f → ⊥
-  ignoring-fails same = absurd (omega (arith, of-none 0 (omega arith), of-none 1 (omega arith), same 0 1 []))
+  unfolding takeBit takeBits crcFrom xor
+  ignoring-fails same = absurd (omega (arith, no-other 0 (0 ∷ []) (omega arith), no-other 1 (0 ∷ []) (omega arith), same 0 1 0 []))
 
+  -- No number is its own complement.
   pub complementing-fails : Complements f → ⊥
-  unfolding crcFrom
-  complementing-fails c = absurd (omega (arith, of-none 0 (omega arith), c 0 []))
+  complementing-fails c = absurd (omega (arith, no-other 0 (0 ∷ []) (omega arith), c 0 0 []))
 
+  -- No octets leave a register of 0 as it is.
   pub anew-fails : StartsAnew f → ⊥
-  anew-fails anew = absurd (omega (arith, of-none 0 (omega arith), anew 0))
+  unfolding crcFrom
+  anew-fails anew = absurd (omega (arith, no-other 0 [] (omega arith), anew 0))

@@ -14,13 +14,14 @@ use Rattle.octets.proofs.Between.{between-eq}
 use Rattle.crc.specs.Register.{allOnes, crcFrom}
 use Rattle.crc.proofs.Laws.{crcFrom-append}
 use Rattle.crc.proofs.Parts.{parts-whole}
+use Rattle.commands.specs.Form.{startOctets}
 use Rattle.saying.specs.Text.{lineOf}
 use Rattle.showing.specs.Shows.{valueText, controlText, goingOnText}
 
-behind-value : (value : ℕ) (part : List ℕ) → between 2 (length (octets16 value ++ part)) (octets16 value ++ part) ≡ part
+behind-value : (value : ℕ) (part : List ℕ) → between startOctets (length (octets16 value ++ part)) (octets16 value ++ part) ≡ part
 behind-value value part =
-    between-eq 2 (length (octets16 value ++ part)) (octets16 value ++ part) (omega arith) (omega arith)
-    ∙ take-all (length (octets16 value ++ part) - 2) part (omega arith)
+    between-eq startOctets (length (octets16 value ++ part)) (octets16 value ++ part) (omega arith) (omega arith)
+    ∙ take-all (length (octets16 value ++ part) - startOctets) part (omega arith)
 
 -- A value and a part behind it: D goes on from that value over that part, and from FFFF it prints what C does.
 pub goes-on : (value : ℕ) (part : List ℕ) → goingOnText (octets16 value ++ part) ≡ valueText value part
