@@ -3,25 +3,42 @@
 use mathlib.Core.Path.{_≡_, refl, sym, ap, ap₂, _∙_}
 use mathlib.Core.Bool.{Bool, true, false, cond, xor}
 use mathlib.Core.List.{List, [], _∷_, _++_}
-use Prim.Native.Nat.{ℕ, _+_, _*_, _/_, _%_, _≤_, _<_}
+use Prim.Native.Nat.{ℕ, _+_, _-_, _*_, _/_, _%_, _<_}
 use native.Mathlib.Nat.{mod-eq-of-lt}
 use native.Mathlib.Numerals.{add-one}
 use native.Mathlib.Omega.{arith}
-use borrow.Author.Tests.{le-leb, lt-leb}
-use lib.Bits.{bitXor, xor-lt}
+use lib.Bits.{bitXor, xor-lt, xor-zero-r}
 use lib.Dec.{leb}
-use lib.ListN.{length, replicate, drop, getD}
-use lib.Seq.{drop-cons}
+use lib.ListN.{length, replicate, take, drop, getD, take-append-drop}
+use lib.Seq.{drop-cons, drop-drop}
 use Rattle.crc.specs.Register.{generator, allOnes, bitsOf, moved, takeBit, takeBits, crcFrom, crcOf}
 use Rattle.crc.specs.Division.{plus, numberOf, presetOf}
-use Rattle.crc.proofs.Polynomial.{length-plus, numberOf-append, numberOf-zeros, numberOf-plus, digitsOf, length-digitsOf, numberOf-digitsOf, numberOf-bitsOf, numberOf-presetOf}
-use Rattle.crc.proofs.Places.{numberOf-takenAll, takenAll-own, takenAll-added}
+use Rattle.crc.proofs.Polynomial.{plus-self, length-plus, numberOf-append, numberOf-zeros, numberOf-plus, digitsOf, length-digitsOf, numberOf-digitsOf, numberOf-bitsOf, numberOf-presetOf}
+use Rattle.crc.proofs.Places.{takenAll, numberOf-takenAll, length-takenAll, takenAll-own, takenAll-plus}
+
+-- Eight bits that are 0.
+abbrev pub zeros : List Bool
+zeros = replicate 8 false
 
 -- What follows is taken from where the first part left the register.
 pub crcFrom-append : (r : ℕ) (xs ys : List ℕ) → crcFrom r (xs ++ ys) ≡ crcFrom (crcFrom r xs) ys
 unfolding crcFrom
 crcFrom-append r [] ys = refl
 crcFrom-append r (x ∷ xs) ys = crcFrom-append (takeBits r (bitsOf x)) xs ys
+
+-- Some octets of a list are taken, and the rest is left.
+pub crcFrom-part : (r : ℕ) (xs : List ℕ) (i n : ℕ)
+    → crcFrom r (drop i xs) ≡ crcFrom (crcFrom r (take (i + n - i) (drop i xs))) (drop (i + n) xs)
+crcFrom-part r xs i n =
+    ap (crcFrom r) (sym (take-append-drop m (drop i xs)))
+    ∙ crcFrom-append r (take m (drop i xs)) (drop m (drop i xs))
+    ∙ ap (crcFrom (crcFrom r (take m (drop i xs)))) (drop-drop m i xs ∙ ap (λ (k : ℕ). drop k xs) behind)
+  where
+    m : ℕ
+    m = i + n - i
+
+    behind : i + m ≡ i + n
+    behind = omega arith
 
 -- One octet of a list is taken, and the rest is left.
 pub crcFrom-drop : (r : ℕ) (xs : List ℕ) (i : ℕ) → i < length xs
@@ -38,7 +55,7 @@ takeBit-lt r b = by-cases (xor (leb 32768 r) b)
     by-cases true = xor-lt 16 (moved r) generator (omega arith) (omega arith)
     by-cases false = omega arith
 
-takeBits-lt : (r : ℕ) (bs : List Bool) → r < 65536 → takeBits r bs < 65536
+pub takeBits-lt : (r : ℕ) (bs : List Bool) → r < 65536 → takeBits r bs < 65536
 unfolding takeBits
 takeBits-lt r [] h = h
 takeBits-lt r (b ∷ bs) h = takeBits-lt (takeBit r b) bs (takeBit-lt r b)
@@ -53,53 +70,69 @@ crcFrom-lt r (x ∷ xs) h = crcFrom-lt (takeBits r (bitsOf x)) xs (takeBits-lt r
 pub crc-lt : (xs : List ℕ) → crcOf xs < 65536
 crc-lt xs = crcFrom-lt allOnes xs (omega arith)
 
--- A zero moves the register up where a 0 leaves at the top.
-pub takeBit-low : (r : ℕ) → r < 32768 → takeBit r false ≡ moved r
-unfolding takeBit xor
-takeBit-low r h = rw (lt-leb 32768 r h)
-
--- Where a 1 leaves, it adds the generator too.
-pub takeBit-high : (r : ℕ) → 32768 ≤ r → takeBit r false ≡ bitXor (moved r) generator
-unfolding takeBit xor
-takeBit-high r h = rw (le-leb 32768 r h)
-
--- The eight bits of an octet are taken as eight zeros are once the octet has been added in at the top.
-pub takeBits-octet : (r x : ℕ) → r < 65536 → x < 256
-    → takeBits r (bitsOf x) ≡ takeBits (bitXor r (x * 256)) (replicate 8 false)
-takeBits-octet r x h k =
-    ap (λ (n : ℕ). takeBits n (bitsOf x)) (sym places)
-    ∙ sym (numberOf-takenAll p (bitsOf x) l)
-    ∙ ap numberOf (takenAll-added (bitsOf x) p 8 l refl)
-    ∙ numberOf-takenAll (plus p z) (replicate 8 false) (length-plus p z l)
-    ∙ ap (λ (n : ℕ). takeBits n (replicate 8 false)) (numberOf-plus p z l ∙ ap₂ bitXor places top)
+-- Two registers that take bits in turn, added up: their sum takes the sums of the bits.
+pub takeBits-plus : (r s : ℕ) (bs cs : List Bool) → r < 65536 → s < 65536 → length bs ≡ length cs
+    → takeBits (bitXor r s) (plus bs cs) ≡ bitXor (takeBits r bs) (takeBits s cs)
+takeBits-plus r s bs cs h k l =
+    ap (λ (n : ℕ). takeBits n (plus bs cs)) (sym (numberOf-plus p q same ∙ ap₂ bitXor (places r h) (places s k)))
+    ∙ sym (numberOf-takenAll (plus p q) (plus bs cs) (length-plus p q same ∙ lq))
+    ∙ ap numberOf (takenAll-plus p q bs cs lp lq l)
+    ∙ numberOf-plus (takenAll p bs) (takenAll q cs) (length-takenAll p bs lp ∙ sym (length-takenAll q cs lq))
+    ∙ ap₂ bitXor (numberOf-takenAll p bs lp ∙ ap (λ (n : ℕ). takeBits n bs) (places r h)) (numberOf-takenAll q cs lq ∙ ap (λ (n : ℕ). takeBits n cs) (places s k))
   where
     p : List Bool
     p = digitsOf 16 r
 
-    z : List Bool
-    z = bitsOf x ++ replicate 8 false
+    q : List Bool
+    q = digitsOf 16 s
 
-    l : length p ≡ 16
-    l = length-digitsOf 16 r
+    lp : length p ≡ 16
+    lp = length-digitsOf 16 r
 
-    places : numberOf p ≡ r
-    places = numberOf-digitsOf 16 r ∙ mod-eq-of-lt h
+    lq : length q ≡ 16
+    lq = length-digitsOf 16 s
 
-    top : numberOf z ≡ x * 256
-    top =
-        omega
-        (arith, numberOf-append (bitsOf x) (replicate 8 false), numberOf-bitsOf x, numberOf-zeros 8)
+    same : length p ≡ length q
+    same = lp ∙ sym lq
 
--- A register that takes its own sixteen bits is left empty.
-takeBits-own : (r : ℕ) → r < 65536 → takeBits r (presetOf r) ≡ 0
-takeBits-own r h =
-    ap (λ (n : ℕ). takeBits n p) (sym (numberOf-presetOf r h))
-    ∙ sym (numberOf-takenAll p p refl)
-    ∙ ap numberOf (takenAll-own p [])
-    ∙ numberOf-zeros 16
+    places : (n : ℕ) → n < 65536 → numberOf (digitsOf 16 n) ≡ n
+    places n b = numberOf-digitsOf 16 n ∙ mod-eq-of-lt b
+
+-- A register whose top places are the bits that it takes moves them out, and zeros in.
+takeBits-own : (bs p : List Bool) → length (bs ++ p) ≡ 16
+    → takeBits (numberOf (bs ++ p)) bs ≡ numberOf (p ++ replicate (length bs) false)
+takeBits-own bs p e = sym (numberOf-takenAll (bs ++ p) bs e) ∙ ap numberOf (takenAll-own bs p)
+
+-- An octet at the top of the register.
+numberOf-top : (x : ℕ) → x < 256 → numberOf (bitsOf x ++ zeros) ≡ x * 256
+numberOf-top x k =
+    omega (arith, numberOf-append (bitsOf x) zeros, numberOf-bitsOf x, numberOf-zeros 8)
+
+-- Eight zeros move an octet from the bottom to the top.
+pub takeBits-low : (x : ℕ) → x < 256 → takeBits x zeros ≡ x * 256
+takeBits-low x k =
+    ap (λ (n : ℕ). takeBits n zeros) (sym bottom)
+    ∙ takeBits-own zeros (bitsOf x) refl
+    ∙ numberOf-top x k
   where
-    p : List Bool
-    p = presetOf r
+    bottom : numberOf (zeros ++ bitsOf x) ≡ x
+    bottom =
+        omega (arith, numberOf-append zeros (bitsOf x), numberOf-bitsOf x, numberOf-zeros 8)
+
+-- The eight bits of an octet are taken as eight zeros are once the octet has been added in at the top.
+pub takeBits-octet : (r x : ℕ) → r < 65536 → x < 256 → takeBits r (bitsOf x) ≡ takeBits (bitXor r (x * 256)) zeros
+takeBits-octet r x h k =
+    sym
+    (ap (takeBits (bitXor r (x * 256))) (sym (plus-self (bitsOf x)))
+    ∙ takeBits-plus r (x * 256) (bitsOf x) (bitsOf x) h (omega arith) refl
+    ∙ ap (bitXor (takeBits r (bitsOf x))) leaves-none
+    ∙ xor-zero-r (takeBits r (bitsOf x)))
+  where
+    leaves-none : takeBits (x * 256) (bitsOf x) ≡ 0
+    leaves-none =
+        ap (λ (n : ℕ). takeBits n (bitsOf x)) (sym (numberOf-top x k))
+        ∙ takeBits-own (bitsOf x) zeros refl
+        ∙ numberOf-zeros 16
 
 -- A list followed by its own CRC, the high octet first, has the CRC 0, from any start of sixteen bits.
 pub crc-own : (start : ℕ) (xs : List ℕ) → start < 65536
@@ -107,4 +140,9 @@ pub crc-own : (start : ℕ) (xs : List ℕ) → start < 65536
 unfolding crcFrom takeBits
 crc-own start xs h =
     crcFrom-append start xs (crcFrom start xs / 256 ∷ crcFrom start xs % 256 ∷ [])
-    ∙ takeBits-own (crcFrom start xs) (crcFrom-lt start xs h)
+    ∙ ap (λ (n : ℕ). takeBits n p) (sym (numberOf-presetOf (crcFrom start xs) (crcFrom-lt start xs h)))
+    ∙ takeBits-own p [] refl
+    ∙ numberOf-zeros 16
+  where
+    p : List Bool
+    p = presetOf (crcFrom start xs)

@@ -3,15 +3,15 @@
 use mathlib.Core.Path.{_≡_, refl, sym, ap, ap₂, _∙_}
 use mathlib.Core.Bool.{Bool, true, false, cond, xor}
 use mathlib.Core.List.{List, [], _∷_, _++_, append-nil, append-assoc}
-use Prim.Native.Nat.{ℕ, _+_, _^_}
+use Prim.Native.Nat.{ℕ, _^_}
 use native.Mathlib.Omega.{arith}
 use borrow.Author.Tests.{le-leb, lt-leb}
 use lib.Bits.{bitXor, xor-comm as bitXor-comm}
 use lib.Dec.{leb}
-use lib.ListN.{length, replicate, length-append, length-replicate, replicate-append-replicate}
+use lib.ListN.{length, replicate, length-append}
 use Rattle.crc.specs.Register.{generator, moved, takeBit, takeBits}
 use Rattle.crc.specs.Division.{plus, lowerG, numberOf}
-use Rattle.crc.proofs.Polynomial.{plus-comm, plus-assoc, plus-append, length-plus, zeros-plus, numberOf-lt, numberOf-append, numberOf-plus}
+use Rattle.crc.proofs.Polynomial.{xor-middle, plus-assoc, plus-left, plus-twice, plus-append, length-plus, numberOf-lt, numberOf-append, numberOf-plus}
 
 -- The places moved up by one: a 0 enters at the bottom.
 abbrev pub movedUp : List Bool → List Bool
@@ -76,6 +76,10 @@ numberOf-takenAll p [] e = refl
 numberOf-takenAll p (b ∷ bs) e =
     numberOf-takenAll (taken p b) bs (length-taken p b e) ∙ ap (λ (r : ℕ). takeBits r bs) (numberOf-taken p b e)
 
+pub length-takenAll : (p bs : List Bool) → length p ≡ 16 → length (takenAll p bs) ≡ 16
+length-takenAll p [] e = e
+length-takenAll p (b ∷ bs) e = length-takenAll (taken p b) bs (length-taken p b e)
+
 -- The bit that leaves is the message's: the places move up, and no more.
 taken-own : (b : Bool) (p : List Bool) → taken (b ∷ p) b ≡ movedUp p
 unfolding xor
@@ -90,37 +94,40 @@ takenAll-own (b ∷ bs) p =
     ∙ takenAll-own bs (movedUp p)
     ∙ append-assoc p (false ∷ []) (replicate (length bs) false)
 
--- A message bit is added in at the top before the places move.
-taken-added : (t b : Bool) (p q : List Bool) → length p ≡ length q
-    → plus (taken (t ∷ p) b) (movedUp q) ≡ taken (xor t b ∷ plus p q) false
+-- Two registers that take a bit each, added up: their sum takes the sum of the bits.
+taken-plus : (t u a b : Bool) (p q : List Bool) → length p ≡ 15 → length q ≡ 15
+    → taken (xor t u ∷ plus p q) (xor a b) ≡ plus (taken (t ∷ p) a) (taken (u ∷ q) b)
 unfolding xor plus
-taken-added t b p q e = by-cases (xor t b)
+taken-plus t u a b p q e f =
+    ap (λ (w : Bool). cond w (plus lowerG (movedUp (plus p q))) (movedUp (plus p q))) (xor-middle t u a b)
+    ∙ ap (λ (m : List Bool). cond (xor (xor t a) (xor u b)) (plus lowerG m) m) side
+    ∙ by-cases (xor t a) (xor u b)
   where
     m : List Bool
     m = movedUp p
 
-    side : plus m (movedUp q) ≡ movedUp (plus p q)
-    side = plus-append p q (false ∷ []) (false ∷ []) e
+    n : List Bool
+    n = movedUp q
 
-    by-cases : (u : Bool) → plus (cond u (plus lowerG m) m) (movedUp q) ≡ taken (u ∷ plus p q) false
-    by-cases true = plus-assoc lowerG m (movedUp q) ∙ ap (plus lowerG) side
-    by-cases false = side
+    side : movedUp (plus p q) ≡ plus m n
+    side = sym (plus-append p q (false ∷ []) (false ∷ []) (e ∙ sym f))
 
--- A message of at most sixteen bits is taken as zeros are once it has been added in at the top.
-pub takenAll-added : (bs p : List Bool) (n : ℕ) → length p ≡ 16 → length bs + n ≡ 16
-    → takenAll p bs ≡ takenAll (plus p (bs ++ replicate n false)) (replicate (length bs) false)
+    by-cases : (v w : Bool)
+        → cond (xor v w) (plus lowerG (plus m n)) (plus m n) ≡ plus (cond v (plus lowerG m) m) (cond w (plus lowerG n) n)
+    by-cases true true = plus-twice lowerG m n (length-movedUp p e) (length-movedUp q f)
+    by-cases true false = sym (plus-assoc lowerG m n)
+    by-cases false true = plus-left lowerG m n
+    by-cases false false = refl
+
+-- Two registers that take bits in turn, added up: their sum takes the sums of the bits.
+pub takenAll-plus : (p q bs cs : List Bool) → length p ≡ 16 → length q ≡ 16 → length bs ≡ length cs
+    → takenAll (plus p q) (plus bs cs) ≡ plus (takenAll p bs) (takenAll q cs)
 unfolding plus
-takenAll-added [] p n e f =
-    sym (plus-comm p (replicate n false) ∙ zeros-plus n p (omega arith))
-takenAll-added (b ∷ bs) [] n e f = absurd (omega arith)
-takenAll-added (b ∷ bs) (t ∷ p) n e f =
-    takenAll-added bs (taken (t ∷ p) b) (n + 1) (length-taken (t ∷ p) b e) (omega arith)
-    ∙ ap (λ (q : List Bool). takenAll q (replicate (length bs) false)) (ap (plus (taken (t ∷ p) b)) one-more ∙ taken-added t b p (bs ++ replicate n false) l)
-  where
-    l : length p ≡ length (bs ++ replicate n false)
-    l = omega (arith, length-append bs (replicate n false), length-replicate n false)
-
-    one-more : bs ++ replicate (n + 1) false ≡ movedUp (bs ++ replicate n false)
-    one-more =
-        ap (λ (z : List Bool). bs ++ z) (sym (replicate-append-replicate n 1 false))
-        ∙ sym (append-assoc bs (replicate n false) (false ∷ []))
+takenAll-plus p q [] [] e f l = refl
+takenAll-plus p q [] (c ∷ cs) e f l = absurd (omega arith)
+takenAll-plus p q (b ∷ bs) [] e f l = absurd (omega arith)
+takenAll-plus [] q (b ∷ bs) (c ∷ cs) e f l = absurd (omega arith)
+takenAll-plus (t ∷ p) [] (b ∷ bs) (c ∷ cs) e f l = absurd (omega arith)
+takenAll-plus (t ∷ p) (u ∷ q) (b ∷ bs) (c ∷ cs) e f l =
+    ap (λ (r : List Bool). takenAll r (plus bs cs)) (taken-plus t u b c p q (omega arith) (omega arith))
+    ∙ takenAll-plus (taken (t ∷ p) b) (taken (u ∷ q) c) bs cs (length-taken (t ∷ p) b e) (length-taken (u ∷ q) c f) (omega arith)

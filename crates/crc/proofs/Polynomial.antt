@@ -32,6 +32,18 @@ xor-assoc false true false = refl
 xor-assoc false false true = refl
 xor-assoc false false false = refl
 
+xor-self : (a : Bool) → xor a a ≡ false
+unfolding xor
+xor-self true = refl
+xor-self false = refl
+
+-- The two in the middle of a sum of four change places.
+pub xor-middle : (a b c d : Bool) → xor (xor a b) (xor c d) ≡ xor (xor a c) (xor b d)
+xor-middle a b c d =
+    xor-assoc a b (xor c d)
+    ∙ ap (xor a) (sym (xor-assoc b c d) ∙ ap (λ (x : Bool). xor x d) (xor-comm b c) ∙ xor-assoc c b d)
+    ∙ sym (xor-assoc a c (xor b d))
+
 pub plus-comm : (p q : List Bool) → plus p q ≡ plus q p
 unfolding plus
 plus-comm [] [] = refl
@@ -66,6 +78,27 @@ zeros-plus zero p e = refl
 zeros-plus (suc n) [] e = absurd (omega arith)
 zeros-plus (suc n) (true ∷ p) e = ap {B = List Bool} (λ l. true ∷ l) (zeros-plus n p (omega arith))
 zeros-plus (suc n) (false ∷ p) e = ap {B = List Bool} (λ l. false ∷ l) (zeros-plus n p (omega arith))
+
+-- A polynomial added to itself is 0.
+pub plus-self : (p : List Bool) → plus p p ≡ replicate (length p) false
+unfolding plus
+plus-self [] = refl
+plus-self (a ∷ p) = ap₂ {C = List Bool} (λ x l. x ∷ l) (xor-self a) (plus-self p)
+
+-- A third polynomial that is added to the second of two might as well come first.
+pub plus-left : (g p q : List Bool) → plus g (plus p q) ≡ plus p (plus g q)
+plus-left g p q =
+    sym (plus-assoc g p q) ∙ ap (λ (x : List Bool). plus x q) (plus-comm g p) ∙ plus-assoc p g q
+
+-- One that is added to both of two is not in their sum.
+pub plus-twice : (g p q : List Bool) → length p ≡ length g → length q ≡ length g → plus p q ≡ plus (plus g p) (plus g q)
+plus-twice g p q e f =
+    sym
+    (plus-assoc g p (plus g q)
+    ∙ ap (plus g) (plus-left p g q)
+    ∙ sym (plus-assoc g g (plus p q))
+    ∙ ap (λ (z : List Bool). plus z (plus p q)) (plus-self g)
+    ∙ zeros-plus (length g) (plus p q) (length-plus p q (e ∙ sym f) ∙ f))
 
 -- ---- a list of bits as a number
 

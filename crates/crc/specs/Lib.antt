@@ -1,4 +1,5 @@
 pub mod Register
 pub mod Division
 pub mod Parts
+pub mod Tables
 pub mod Vectors

@@ -68,6 +68,23 @@ pub fn longest_dump(random: &mut Random, profile: &Profile) -> Vec<u8> {
     fields.octets()
 }
 
+/// A load and a check of a block of so many words, at least 1,024, of the first area, which has as many and both
+/// rights. The load leaves no zero octet at the block's ends and in its middle.
+pub fn loaded_and_checked(random: &mut Random, profile: &Profile, words: u16) -> [Vec<u8>; 2] {
+    let area = profile.areas[0];
+    let start = area.start + random.between(0, u64::from(area.length) - u64::from(words)) as u32;
+    let few = random.between(1, longest_of(MemoryRequest::Load, 3)) as u16;
+    let mut loaded = vec![area.memory_id, 3];
+    for later_by in [0, words / 2, words - few] {
+        loaded.extend_from_slice(&(start + u32::from(later_by)).to_be_bytes());
+        loaded.extend_from_slice(&few.to_be_bytes());
+        loaded.extend((0..few * 2).map(|_| random.between(1, 255) as u8));
+    }
+    let checked = memory_data(random, MemoryRequest::Check, area.memory_id, &[(start, words)]);
+    [(MemoryRequest::Load, loaded), (MemoryRequest::Check, checked)]
+        .map(|(request, data)| telecommand(random, profile, 6, request.subtype(), data).octets())
+}
+
 impl Fields {
     fn octets(&self) -> Vec<u8> {
         let total = self.data.len() + 12;

@@ -1,4 +1,4 @@
-//! Octets in parts for the generators.
+//! Octets in parts and their lengths for the generators.
 
 use crate::random::Random;
 
@@ -27,6 +27,11 @@ pub fn divided<'a>(random: &mut Random, whole: &'a [u8], cuts: usize) -> Vec<&'a
         part
     };
     places.into_iter().map(part_to).collect()
+}
+
+/// A length near the place, which is a multiple of 8, on either side of it, with that remainder modulo 8.
+pub fn length_about(random: &mut Random, place: usize, remainder: usize) -> usize {
+    place - 24 + 8 * random.below(6) as usize + remainder
 }
 
 /// An image of two to four parts as a harness holds it, the last one short.

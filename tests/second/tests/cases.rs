@@ -561,6 +561,91 @@ fn d_from_any_start() {
     assert_eq!(run("D ABCDEF01\nD aBcDeF01\nD AbCdEf01\nD ffff"), "D9C8\nD9C8\nD9C8\nFFFF\n");
 }
 
+/// By hand from the polynomial: x^16 for the lowest bit, x times the one before for each next, and their sum.
+#[test]
+fn d_of_every_octet_from_zero_behind_zeros() {
+    let bits = [0x1021, 0x2042, 0x4084, 0x8108, 0x1231, 0x2462, 0x48C4, 0x9188];
+    let value = |octet: u8| (0..8).filter(|place| octet >> place & 1 == 1).fold(0, |sum, place| sum ^ bits[place]);
+    let values: String = (0..=255).map(|octet| format!("{:04X}\n", value(octet))).collect();
+    assert!(values.ends_with("\n1EF0\n"), "all eight bits");
+    for zeros in [0, 1, 2, 3, 4, 5, 6, 7, 8, 15, 16, 31, 63, 255, 1_023, 1_500] {
+        let before = "00".repeat(zeros);
+        let lines: String = (0..=255).map(|octet| format!("D 0000{before}{octet:02X}\n")).collect();
+        assert_eq!(run(lines), values, "{zeros}");
+    }
+}
+
+/// 32,767 zero octets leave every value as it was: the polynomial divides x^32767 + 1. P1's values, and the published
+/// ones, come again behind them.
+#[test]
+fn zeros_come_round() {
+    for zeros in [0, 32_767, 65_534] {
+        let before = "00".repeat(zeros);
+        let lines = format!("C {before}\nC {before}00\nC {before}0000\nC {before}000000\n");
+        assert_eq!(run(lines), "FFFF\nE1F0\n1D0F\nCC9C\n", "{zeros}");
+        let lines = format!("C {before}ABCDEF01\nC {before}1456F89A0001\nC {before}185CC000000519110100\n");
+        assert_eq!(run(lines), "04A2\n7FD5\n0167\n", "{zeros}");
+        let lines = format!("D 0001{before}\nD 0100{before}\nD ABCD{before}\nD 04A2{before}04A2\n");
+        assert_eq!(run(lines), "0001\n0100\nABCD\n0000\n", "{zeros}");
+    }
+}
+
+/// A published message with its CRC leaves zero, and zeros leave that; 01 behind them gives x^16, 01 00 gives x^24.
+#[test]
+fn c_of_a_published_message_before_zeros() {
+    for zeros in (0..140).chain(1_000..1_033).chain([2_042, 4_090, 4_091, 4_121, 8_186, 32_762, 65_530, 65_531]) {
+        let octets = format!("ABCDEF0104A2{}", "00".repeat(zeros));
+        let lines = format!("C {octets}\nC {octets}01\nC {octets}0100\n");
+        assert_eq!(run(lines), "0000\n1021\n3331\n", "{zeros}");
+    }
+}
+
+/// Checks of many words, up to all of the largest store. Of zeros the values are P1's: 65,534 octets leave FFFF. A
+/// published message with its CRC at the store's start leaves zero, whatever number of zeros is behind it, and then 01
+/// as the last octet gives x^16.
+#[test]
+fn x_checks_of_many_words() {
+    let unit = format!("P 050F010100000000000080000000000007\nS {}\n", "00".repeat(65_536));
+    let check = |blocks: &[(u32, u16)]| {
+        let named = blocks.iter().map(|(start, words)| format!("{start:08X}{words:04X}"));
+        x(&common::request(0, 6, 9, &format!("01{:02X}{}", blocks.len(), named.collect::<String>())))
+    };
+    let load = |data: &str| x(&common::request(0, 6, 2, data));
+    let input = [
+        unit,
+        check(&[(0, 32_768)]),
+        check(&[(0, 32_767), (1, 32_767), (7, 16_384), (0, 1)]),
+        load("01 01 00000000 0003 ABCDEF0104A2"),
+        check(&[(0, 32_768), (0, 3), (0, 1_024), (0, 1_025), (0, 1_026), (0, 1_027), (0, 4_096), (0, 32_767)]),
+        load("01 01 00007FFF 0001 0001"),
+        check(&[(0, 32_768), (0, 32_767)]),
+        load("01 01 00007FFF 0001 0100"),
+        check(&[(0, 32_768)]),
+    ];
+    let report = |count: u16, rest: &str| {
+        let source = format!("01{rest}").replace(' ', "");
+        let octets = 16 + source.len() / 2;
+        let head = format!("0859{:04X}{:04X}00000000000000060A00", 0xC000 + count, octets - 7);
+        format!("{head}{source}\n0000 0000 {octets:04X} 0000 {:04X}\n", count + 1)
+    };
+    let loaded = |count: u16| format!("\n0000 0000 0000 0000 {count:04X}\n");
+    let output = [
+        report(0, "01 00000000 8000 1D0F"),
+        report(1, "04 00000000 7FFF FFFF 00000001 7FFF FFFF 00000007 4000 E1F0 00000000 0001 1D0F"),
+        loaded(2),
+        report(
+            2,
+            "08 00000000 8000 0000 00000000 0003 0000 00000000 0400 0000 00000000 0401 0000 \
+             00000000 0402 0000 00000000 0403 0000 00000000 1000 0000 00000000 7FFF 0000",
+        ),
+        loaded(3),
+        report(3, "02 00000000 8000 1021 00000000 7FFF 0000"),
+        loaded(4),
+        report(4, "01 00000000 8000 3331"),
+    ];
+    assert_eq!(run(input.concat()), output.concat());
+}
+
 #[test]
 fn d_from_ffff_is_c() {
     for octets in ["", "00", "ABCD", "abcdef01", "185CC000000519110100", &"5A".repeat(300), &"A5".repeat(69_998)] {

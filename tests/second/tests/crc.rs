@@ -1,4 +1,5 @@
-//! The CRC: 01's values, the published vectors of 004, the OMEGA manual's packet, starts, parts, table against bits.
+//! The CRC: 01's values, the published vectors of 004, the OMEGA manual's packet, starts, parts, long inputs whose
+//! value follows from these, table against bits.
 
 mod common;
 
@@ -103,6 +104,51 @@ fn from_zero_and_from_one_bit() {
 fn a_start_met_by_its_own_octets_is_zero() {
     for start in 0..=0xFFFF_u16 {
         assert_eq!(crc(start, &start.to_be_bytes()), 0);
+    }
+}
+
+/// From zero the lowest bit gives x^16, which is x^12 + x^5 + 1, and each next bit x times the one before; 1231 is x^20,
+/// the first in which x^16 is replaced again. An octet gives the sum of its bits.
+#[test]
+fn single_octets_from_zero() {
+    let bits = [0x1021, 0x2042, 0x4084, 0x8108, 0x1231, 0x2462, 0x48C4, 0x9188];
+    for octet in 0..=255_u8 {
+        let held = bits.iter().enumerate().filter(|(place, _)| octet >> place & 1 == 1);
+        assert_eq!(crc(0, &[octet]), held.fold(0, |sum, (_, bit)| sum ^ bit), "{octet:02X}");
+    }
+    assert_eq!(crc(0, &[0xFF]), 0x1EF0);
+}
+
+/// A zero octet multiplies by x^8, and the polynomial divides x^32767 + 1: so many zero octets leave every value as it
+/// was. Behind them 01's values and the published ones come again.
+#[test]
+fn zeros_come_round() {
+    let times_x = |value: u16| (value << 1) ^ if value >> 15 == 1 { 0x1021 } else { 0 };
+    assert_eq!((0..32_767).fold(1, |value, _| times_x(value)), 1);
+    for start in [0, 1, 0x0100, 0x1234, 0x8000, 0xABCD, 0xFFFF] {
+        assert_eq!(crc(start, &[0; 32_767]), start, "{start:04X}");
+        assert_eq!(crc(start, &[0; 65_534]), start, "{start:04X}");
+    }
+    assert_eq!(crc(START, &[0; 32_768]), 0xE1F0);
+    assert_eq!(crc(START, &[0; 65_535]), 0xE1F0);
+    assert_eq!(crc(START, &[0; 65_536]), 0x1D0F);
+    for (octets, value) in PUBLISHED {
+        for zeros in [32_767, 65_534] {
+            assert_eq!(crc(START, &[vec![0; zeros], hex(octets)].concat()), value, "{octets} behind {zeros}");
+        }
+    }
+}
+
+/// A message with its CRC leaves zero, zeros leave that, and then one bit gives x^16, and x^24 where one more octet
+/// comes behind it.
+#[test]
+fn a_published_message_before_any_number_of_zeros() {
+    for zeros in (0..2_100).chain([4_090, 4_091, 32_767, 65_530]) {
+        let octets = [hex("AB CD EF 01 04 A2"), vec![0; zeros], hex("01 00")].concat();
+        let last = octets.len() - 1;
+        assert_eq!(crc(START, &octets[..last - 1]), 0, "{zeros}");
+        assert_eq!(crc(START, &octets[..last]), 0x1021, "{zeros}");
+        assert_eq!(crc(START, &octets), 0x3331, "{zeros}");
     }
 }
 

@@ -1,10 +1,13 @@
 //! Generated input: every verdict and detail is reached, the same seed gives the same input,
 //! and the tally fails when it should.
 
+mod common;
+
 use std::fs;
 use std::path::{Path, PathBuf};
 use std::process::{self, Output};
 
+use common::packing::line;
 use second::cases::{self, Command, State};
 use second::clauses::{ALONE, BOTH};
 use second::random::Random;
@@ -23,6 +26,13 @@ fn file(name: &str, octets: &[u8]) -> PathBuf {
 
 fn tally(input: &Path, output: &Path) -> Output {
     run(env!("CARGO_BIN_EXE_tally"), &[&input.to_string_lossy(), &output.to_string_lossy()])
+}
+
+/// The rows of a tally's text that were reached, and that begin so.
+fn reached(tallied: &Output, begin: &str) -> Vec<String> {
+    let text = String::from_utf8_lossy(&tallied.stdout);
+    let rows = text.lines().filter_map(|line| line.trim_start().split_once("  "));
+    rows.map(|(_, row)| row).filter(|row| row.starts_with(begin)).map(String::from).collect()
 }
 
 /// The rows of a tally's text that were never reached.
@@ -137,8 +147,10 @@ fn parts_set_nothing_and_are_wanted() {
         assert_eq!(tallied.status.code(), Some(1));
         never_reached(&tallied)
     };
+    let long: Vec<String> = (0..8).map(long_whole).collect();
+    let long: Vec<&str> = long.iter().map(String::as_str).collect();
     assert_eq!(missing(&no_parts, &no_parts_out), [&bad[..], &OF_LINES, &OF_WHOLES].concat());
-    assert_eq!(missing(&no_wholes, &no_wholes_out), [&bad[..], &OF_WHOLES].concat());
+    assert_eq!(missing(&no_wholes, &no_wholes_out), [&bad[..], &OF_WHOLES, &long].concat());
 }
 
 /// ABCDEF01 is a published vector; D46A and ED38 are what Python's binascii.crc_hqx gives for the first octets of it.
@@ -199,6 +211,115 @@ fn parts_that_do_not_give_the_whole_are_not_tallied() {
         let input = file("parts-answer.in", input.as_bytes());
         assert_eq!(tally(&input, &file("parts-answer.out", right.as_bytes())).status.code(), Some(1), "{right}");
         assert_eq!(tally(&input, &file("parts-answer.out", wrong.as_bytes())).status.code(), Some(2), "{wrong}");
+    }
+}
+
+/// The row of long C lines with that remainder.
+fn long_whole(remainder: usize) -> String {
+    format!("C of more than 2,048 octets, {remainder} modulo 8")
+}
+
+/// What the tally of these lines has of the rows that begin so. The answers are this implementation's.
+fn tallied_rows(name: &str, lines: &str, begin: &str) -> Vec<String> {
+    let mut answers = Vec::new();
+    cases::run(&mut lines.as_bytes(), &mut answers).expect("a vector takes everything");
+    let input = file(&format!("{name}.in"), lines.as_bytes());
+    reached(&tally(&input, &file(&format!("{name}.out"), &answers)), begin)
+}
+
+#[test]
+fn long_c_lines_count_by_their_remainder() {
+    for octets in [0, 300, 2_047, 2_048] {
+        let rows = tallied_rows("long-c", &format!("C {}\n", "5A".repeat(octets)), "C ");
+        assert!(rows.is_empty(), "{octets}: {rows:?}");
+    }
+    for octets in [2_049, 2_050, 2_051, 2_052, 2_053, 2_054, 2_055, 2_056, 4_096, 65_535, 70_000] {
+        let rows = tallied_rows("long-c", &format!("C {}\n", "00".repeat(octets)), "C ");
+        assert_eq!(rows, [long_whole(octets % 8)], "{octets}");
+    }
+}
+
+/// All of the largest store, 32,768 words, in one area from 1000 hex on; the store is all zeros.
+fn largest_store() -> String {
+    format!("P 050F010100001000000080000000000007\nS {}\n", "00".repeat(65_536))
+}
+
+/// The X line of a packet of service 6.
+fn x_line(subtype: u8, data: &str) -> String {
+    format!("X {}", line(&common::request(0, 6, subtype, data)))
+}
+
+/// The same for memory 1 with one block, which stands so many words behind the area's start.
+fn x(subtype: u8, later_by: u32, length: u16, words: &str) -> String {
+    x_line(subtype, &format!("01 01 {:08X} {length:04X} {words}", 0x1000 + later_by))
+}
+
+#[test]
+fn checks_of_many_words_count_by_their_words() {
+    for (words, row) in [
+        (1_023, None),
+        (1_024, Some("1,024 to 4,095 words, 0 modulo 4")),
+        (1_025, Some("1,024 to 4,095 words, 1 modulo 4")),
+        (4_094, Some("1,024 to 4,095 words, 2 modulo 4")),
+        (4_095, Some("1,024 to 4,095 words, 3 modulo 4")),
+        (4_096, Some("4,096 to 32,767 words, 0 modulo 4")),
+        (4_097, Some("4,096 to 32,767 words, 1 modulo 4")),
+        (32_766, Some("4,096 to 32,767 words, 2 modulo 4")),
+        (32_767, Some("4,096 to 32,767 words, 3 modulo 4")),
+        (32_768, Some("32,768 words")),
+    ] {
+        let begin = 32_768 - u32::from(words);
+        let held = [0, words / 2, words - 1].map(|place| x(2, begin + u32::from(place), 1, "0101")).concat();
+        let lines = format!("{}{held}{}", largest_store(), x(9, begin, words, ""));
+        let rows = tallied_rows("many-words", &lines, "accepted (6,9) of");
+        let expected: Vec<_> = row.iter().map(|row| format!("accepted (6,9) of {row}")).collect();
+        assert_eq!(rows, expected, "{words}");
+    }
+}
+
+#[test]
+fn checks_of_many_words_count_where_the_block_holds_something() {
+    // 2,050 words from word 9 on, 4,100 octets: the one in the middle is the first of word 1,034.
+    let (first, middle, last) = (&x(2, 9, 1, "0100"), &x(2, 1_034, 1, "0100"), &x(2, 2_058, 1, "0001"));
+    let check = &x(9, 9, 2_050, "");
+    let counts = |lines: &[&str], expected: bool| {
+        let rows = tallied_rows("held", &(largest_store() + &lines.concat()), "accepted (6,9) of");
+        let row = "accepted (6,9) of 1,024 to 4,095 words, 2 modulo 4";
+        assert_eq!(rows, [row].into_iter().filter(|_| expected).collect::<Vec<_>>(), "{lines:?}");
+    };
+    counts(&[first, middle, last, check], true);
+    counts(&[last, first, middle, check], true);
+    counts(&[check, first, middle, last], false);
+    counts(&[first, middle, check], false);
+    counts(&[first, last, check], false);
+    counts(&[middle, last, check], false);
+    counts(&[first, &x(2, 1_033, 1, "01FF"), last, check], false);
+    // Zeros that are loaded later, or with the whole store.
+    counts(&[first, middle, last, &x(2, 2_058, 1, "0000"), check], false);
+    counts(&[first, middle, last, &format!("S {}\n", "00".repeat(65_536)), check], false);
+    // A load of two blocks that is refused, for the second is behind the area: it changes nothing.
+    let refused = |word: &str| x_line(2, &format!("01 02 0000180A 0001 {word} 00009000 0001 {word}"));
+    counts(&[first, middle, &refused("0101"), check], false);
+    counts(&[first, middle, last, &refused("0000"), check], true);
+    // A check that is refused, for its flag is off.
+    counts(&[first, middle, last, "P 0503010100001000000080000000000007\n", check], false);
+}
+
+#[test]
+fn checks_of_many_words_are_wanted() {
+    let begin = "accepted (6,9) of ";
+    let tallied = tally(&file("no-checks.in", b"C "), &file("no-checks.out", b"FFFF\n"));
+    assert_eq!(tallied.status.code(), Some(1));
+    let missing: Vec<_> = never_reached(&tallied).into_iter().filter(|row| row.starts_with(begin)).collect();
+    assert_eq!(missing.len(), 9, "{missing:?}");
+}
+
+#[test]
+fn lengths_about_a_place() {
+    let mut random = Random::new(82);
+    for number in 0..1_000 {
+        let length = sample_parts::length_about(&mut random, 4_096, number % 8);
+        assert!((4_072..4_120).contains(&length) && length % 8 == number % 8, "{length}");
     }
 }
 

@@ -4,8 +4,9 @@
 mod common;
 
 use std::ffi::OsStr;
-use std::fs::OpenOptions;
+use std::fs::{self, OpenOptions};
 use std::io::{BufRead, BufReader, Write};
+use std::path::Path;
 use std::process::Stdio;
 use std::sync::mpsc;
 use std::thread;
@@ -84,6 +85,28 @@ fn a_check_covers_what_was_put() {
     let check = packet(6, 9, "01 02 00001000 0001 00001001 0002");
     let report = "0859C000001B00000000000000060A0001020000100000011D0F00001001000204A2\n";
     pack(format!("{EXAMPLE}put 2 ABCDEF01\n"), &check).is_record(&format!("{check}{report}\n"));
+}
+
+#[test]
+fn a_check_covers_all_of_the_largest_store() {
+    // 65,534 zero octets leave every CRC as it was, so all 65,536 have that of two, 1D0F (document 01). ABCDEF01 with
+    // its CRC, 04A2, leaves zero, and so do the zeros behind it; then 01 as the last octet gives 1021, the polynomial.
+    let unit = fs::read(Path::new(env!("CARGO_MANIFEST_DIR")).join("../full.unit")).expect("it is stored");
+    let check = packet(6, 9, "01 01 00000000 8000");
+    let message = packet(6, 2, "01 01 00000000 0003 ABCDEF0104A2");
+    let last = packet(6, 2, "01 01 00007FFF 0001 0001");
+    let outside = packet(6, 9, "01 01 00000001 8000");
+    let report = |count: u16, value: &str| {
+        format!("0859{:04X}001300000000000000060A000101000000008000{value}\n", 0xC000 + count)
+    };
+    let record = format!(
+        "{check}{}\n{message}\n{check}{}\n{last}\n{check}{}\n{outside}{}\n",
+        report(0, "1D0F"),
+        report(1, "0000"),
+        report(2, "1021"),
+        refused(0, 19, 1),
+    );
+    pack(unit, format!("{check}{message}{check}{last}{check}{outside}")).is_record(&record);
 }
 
 #[test]

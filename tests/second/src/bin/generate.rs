@@ -22,8 +22,13 @@ const LONG_PACKETS: [usize; 3] = [65_535, 65_536, 69_999];
 const LONG_FRAMES: [usize; 4] = [65_542, 65_543, 69_999, 70_000];
 /// The most octets that a D line takes behind its start.
 const LONGEST_PART: usize = 69_998;
-/// So many packets stand between the long D lines.
+/// Lengths about which a CRC may change its way; a long C line for each, each with another remainder modulo 8.
+const LONG_WHOLES: [usize; 8] = [4_096, 4_096, 4_096, 8_192, 8_192, 16_384, 32_768, 65_536];
+/// So many packets stand between the long D and C lines.
 const BETWEEN_LONG_PARTS: u64 = 10_000;
+/// A C or D line among the packets has fewer octets than the first, and seldom as many as up to the second.
+const FEW_OCTETS: u64 = 300;
+const MANY_OCTETS: u64 = 2_400;
 /// Stores above this many octets are seldom shown.
 const SMALL_STORE: usize = 1_024;
 
@@ -243,18 +248,45 @@ impl<W: Write> Generator<W> {
         self.packets_under(&map.profile, 60)
     }
 
-    /// 65,536 octets, the most there may be; the areas reach the last word.
+    /// 65,536 octets, the most there may be; the areas reach the last word. The first time, and then as often as not,
+    /// one area is all of it.
     fn largest_store(&mut self, episode: u64) -> io::Result<()> {
-        if episode >= 20 && !self.random.once_in(3) {
+        let first = episode < 20;
+        if !first && !self.random.once_in(3) {
             return self.ordinary();
         }
         let mut map = sample_map::sound(&mut self.random, 32_768, 1);
-        if self.random.once_in(2) {
+        let all_of_it = first || self.random.once_in(2);
+        if all_of_it {
             let start = self.random.pick(&[0, 0x1000, 0xFFFF_8000]);
+            map.profile.flags = Flags::ALL;
             map.profile.areas[0] = Area { memory_id: 9, start, length: 32_768, first_word: 0, rights: Rights::ALL };
         }
         self.begin(&map)?;
+        if all_of_it {
+            self.checks_of_many_words(&map.profile)?;
+        }
         self.packets_under(&map.profile, 80)
+    }
+
+    /// Checks of the whole store, and of fewer and of more thousands of words with each remainder modulo 4.
+    fn checks_of_many_words(&mut self, profile: &Profile) -> io::Result<()> {
+        self.check_of(profile, 32_768)?;
+        for remainder in 0..4 {
+            for (low, high) in [(256, 1_023), (1_024, 8_191)] {
+                let words = self.random.between(low, high) * 4 + remainder;
+                self.check_of(profile, words as u16)?;
+            }
+        }
+        Ok(())
+    }
+
+    /// A check of a block of so many words, behind a load of its ends and its middle.
+    fn check_of(&mut self, profile: &Profile, words: u16) -> io::Result<()> {
+        for packet in sample::loaded_and_checked(&mut self.random, profile, words) {
+            self.packet(&packet)?;
+        }
+        Ok(())
     }
 
     /// Profile, store, counts, time and buffer, all anew.
@@ -334,7 +366,7 @@ impl<W: Write> Generator<W> {
     }
 
     /// As many octets as the largest store has in parts, an image in parts as a harness holds them, the longest part,
-    /// and D lines that are too short for a start, which are bad.
+    /// D lines that are too short for a start, which are bad, and long C lines.
     fn long_parts(&mut self) -> io::Result<()> {
         let whole = self.random.octets(LONGEST_STORE);
         let cuts = self.random.between(1, 12) as usize;
@@ -347,7 +379,20 @@ impl<W: Write> Generator<W> {
         self.in_parts(&[&longest])?;
         let upper = self.random.octet();
         self.line(b"D", Some(&[upper]))?;
-        self.line(b"D", Some(&[]))
+        self.line(b"D", Some(&[]))?;
+        self.long_wholes()
+    }
+
+    /// Octets about as many as each of the lengths, of each remainder modulo 8.
+    fn long_wholes(&mut self) -> io::Result<()> {
+        let mut places = LONG_WHOLES;
+        self.random.shuffle(&mut places);
+        for (remainder, place) in places.into_iter().enumerate() {
+            let length = sample_parts::length_about(&mut self.random, place, remainder);
+            let octets = self.random.octets(length);
+            self.line(b"C", Some(&octets))?;
+        }
+        Ok(())
     }
 
     /// A D line for each part, from the value that the one before has to give, and the C line of the whole.
@@ -369,10 +414,16 @@ impl<W: Write> Generator<W> {
     fn any_part(&mut self) -> io::Result<()> {
         let any = self.random.any() as u16;
         let start = self.random.pick(&[START, 0, any, any]);
-        let many = self.random.below(300) as usize;
-        let count = self.random.pick(&[0, 1, 2, many, many]);
-        let octets = self.random.octets(count);
+        let octets = self.any_octets();
         self.part(start, &octets)
+    }
+
+    /// Octets for a C or D line.
+    fn any_octets(&mut self) -> Vec<u8> {
+        let some = self.random.below(FEW_OCTETS);
+        let many = self.random.between(FEW_OCTETS, MANY_OCTETS);
+        let count = if self.random.once_in(20) { many } else { self.random.pick(&[0, 1, 2, some, some]) };
+        self.random.octets(count as usize)
     }
 
     /// Places that are all zero are not given where no other follows.
@@ -415,9 +466,7 @@ impl<W: Write> Generator<W> {
             }
             29..=52 => self.write_line(),
             53..=60 => {
-                let many = self.random.below(300) as usize;
-                let count = self.random.pick(&[0, 1, 2, many, many]);
-                let octets = self.random.octets(count);
+                let octets = self.any_octets();
                 self.line(b"C", Some(&octets))
             }
             61..=72 => self.bad_line(),

@@ -1,6 +1,10 @@
-//! `tally INPUT OUTPUT` pairs the X, V, F and D lines of a `cases` input with their answers and counts how often
+//! `tally INPUT OUTPUT` pairs the X, V, F, C and D lines of a `cases` input with their answers and counts how often
 //! each verdict and kind of detail was reached, each clause of wider, each cause of a frame's refusal and each kind
-//! of parts. It ends with 1 if one of the fixed list never was.
+//! of parts, and how often checks of many words and long C lines were. It ends with 1 if one of the fixed list never
+//! was.
+//!
+//! A check of many words counts where the block holds something at both its ends and in its middle, so the store is
+//! followed through the accepted loads.
 //!
 //! Parts of a whole are known by the input alone: D lines directly one behind another, the first from FFFF, and
 //! directly behind them the C line of all their octets. Then each start has to be the value printed before it, and
@@ -11,8 +15,10 @@ use std::env;
 use std::fs::File;
 use std::io::{self, BufRead, BufReader, Write};
 use std::mem;
+use std::ops::Range;
 use std::process::ExitCode;
 
+use second::blocks::{read_memory_data, Block, MemoryRequest};
 use second::cases::{self, Command, State, LONGEST_LINE};
 use second::clauses::{self, Clause};
 use second::crc::START;
@@ -51,6 +57,11 @@ const EMPTY_LAST: &str = "D: parts with an empty one last";
 const ALL_EMPTY: &str = "D: parts that are all empty";
 const STORE_IN_PARTS: &str = "D: a whole of 64 KiB in parts";
 const IMAGE_IN_PARTS: &str = "D: parts of 4,096, the last one short";
+const THOUSANDS: &str = "1,024 to 4,095";
+const MORE_THOUSANDS: &str = "4,096 to 32,767";
+const CHECK_OF_ALL: &str = "accepted (6,9) of 32,768 words";
+/// A C line of more octets than these is a long one.
+const SHORT_WHOLE: usize = 2_048;
 
 /// How often each kind was reached; and the packets, the maps, the V lines, the F lines, the D lines, and the wholes
 /// of which D lines were the parts.
@@ -149,6 +160,9 @@ fn count(mut input: impl BufRead, mut output: impl BufRead) -> io::Result<Tally>
                 for kind in kinds(&state, &packet, &verdict) {
                     *tally.kinds.entry(kind).or_default() += 1;
                 }
+                if !verdict.refused {
+                    follow(&mut state, &packet);
+                }
             }
             Some(Command::CrcFrom { start, octets }) => {
                 let value = check_value(&wanted_line(&mut output)?)?;
@@ -161,6 +175,9 @@ fn count(mut input: impl BufRead, mut output: impl BufRead) -> io::Result<Tally>
             }
             Some(Command::Crc(octets)) => {
                 let value = check_value(&wanted_line(&mut output)?)?;
+                if octets.len() > SHORT_WHOLE {
+                    *tally.kinds.entry(long_whole(octets.len() % 8)).or_default() += 1;
+                }
                 if is_whole(&parts_before, &octets) {
                     tally.wholes += 1;
                     for kind in whole_kinds(&parts_before, value)? {
@@ -302,7 +319,8 @@ fn kinds(state: &State, packet: &[u8], verdict: &Verdict) -> Vec<String> {
     let request = format!("({},{})", octet(7), octet(8));
     let detail = verdict.detail;
     if !verdict.refused {
-        return vec![format!("accepted {request} ack {:2}", octet(6) & 0x0F)];
+        let accepted = format!("accepted {request} ack {:2}", octet(6) & 0x0F);
+        return [accepted].into_iter().chain(check_kinds(state, packet)).collect();
     }
     let about = match verdict.number {
         41 => unsound_clause(state),
@@ -322,6 +340,64 @@ fn kinds(state: &State, packet: &[u8], verdict: &Verdict) -> Vec<String> {
         _ => String::new(),
     };
     vec![format!("refused {:2} {about}", verdict.number)]
+}
+
+/// The kinds that the blocks of an accepted check count for.
+fn check_kinds(state: &State, packet: &[u8]) -> Vec<String> {
+    let blocks = named_blocks(state, packet, MemoryRequest::Check);
+    let held = blocks.into_iter().filter(|(_, octets)| state.store.get(octets.clone()).is_some_and(holds_something));
+    held.filter_map(|(block, _)| check_kind(block.length)).collect()
+}
+
+/// Whether octets are not zero at both ends and in the middle.
+fn holds_something(octets: &[u8]) -> bool {
+    [octets.first(), octets.get(octets.len() / 2), octets.last()]
+        .iter()
+        .all(|octet| octet.is_some_and(|held| *held != 0))
+}
+
+/// The kind of a checked block, if it has many words.
+fn check_kind(words: u16) -> Option<String> {
+    match words {
+        1_024..=4_095 => Some(many_words(THOUSANDS, words % 4)),
+        4_096..=32_767 => Some(many_words(MORE_THOUSANDS, words % 4)),
+        32_768 => Some(CHECK_OF_ALL.into()),
+        _ => None,
+    }
+}
+
+fn many_words(about: &str, remainder: u16) -> String {
+    format!("accepted (6,9) of {about} words, {remainder} modulo 4")
+}
+
+fn long_whole(remainder: usize) -> String {
+    format!("C of more than 2,048 octets, {remainder} modulo 8")
+}
+
+/// The store holds the words of an accepted load; any other packet leaves it.
+fn follow(state: &mut State, packet: &[u8]) {
+    for (block, octets) in named_blocks(state, packet, MemoryRequest::Load) {
+        if let Some(place) = state.store.get_mut(octets) {
+            place.copy_from_slice(block.words);
+        }
+    }
+}
+
+/// The blocks of an accepted packet with the store octets that each names; none if it is not that request.
+fn named_blocks<'a>(state: &State, packet: &'a [u8], request: MemoryRequest) -> Vec<(Block<'a>, Range<usize>)> {
+    if packet.get(7..9).is_none_or(|asked| asked != [6, request.subtype()]) {
+        return Vec::new();
+    }
+    let Ok(data) = read_memory_data(request, application_data(packet)) else {
+        return Vec::new();
+    };
+    let area = state.profile.area_with_id(data.memory_id).copied().unwrap_or_default();
+    let named = |block: Block<'a>| Some((block, area.store_octets(block.start, block.length)?));
+    data.blocks.into_iter().filter_map(named).collect()
+}
+
+fn application_data(packet: &[u8]) -> &[u8] {
+    packet.get(10..packet.len().saturating_sub(2)).unwrap_or(&[])
 }
 
 fn unsound_clause(state: &State) -> String {
@@ -485,8 +561,7 @@ fn wrong_octets(packet: &[u8], right: u16) -> &'static str {
 }
 
 fn data_kind(packet: &[u8]) -> &'static str {
-    let data = packet.get(10..packet.len().saturating_sub(2)).unwrap_or(&[]);
-    match (packet.get(7), data) {
+    match (packet.get(7), application_data(packet)) {
         (Some(17), _) => "connection",
         (_, [] | [_]) => "fewer than 2 octets",
         (_, [_, 0, ..]) => "N is 0",
@@ -581,5 +656,10 @@ fn wanted() -> Vec<String> {
     wanted.extend([FROM_START, FROM_ZERO, FROM_ANOTHER, PART_OF_NONE, PART_OF_ONE].map(String::from));
     wanted.extend([IN_ONE, LONGEST_IN_ONE, STORE_IN_PARTS, IMAGE_IN_PARTS].map(String::from));
     wanted.extend([EMPTY_FIRST, EMPTY_BETWEEN, EMPTY_LAST, ALL_EMPTY].map(String::from));
+    for about in [THOUSANDS, MORE_THOUSANDS] {
+        wanted.extend((0..4).map(|remainder| many_words(about, remainder)));
+    }
+    wanted.push(CHECK_OF_ALL.into());
+    wanted.extend((0..8).map(long_whole));
     wanted
 }

@@ -1,4 +1,4 @@
--- `crc::crc` meets its contract. The loop's invariant: from the start all the octets give what from the register the octets left give.
+-- `crc::one_by_one` meets its contract. The loop's invariant: from the start all the octets give what from the register the octets left give.
 -- Assumes nothing.
 use mathlib.Core.Path.{_≡_, refl, sym, _∙_}
 use mathlib.Core.List.{List}
@@ -7,14 +7,15 @@ use lib.ListN.{length, drop, drop-of-length-le}
 use Rattle.crc.specs.Register.{crcFrom}
 use borrow.Author.Needs.{needs}
 use Rattle.crc.proofs.Laws.{crcFrom-drop}
-use Rattle.crc.proofs.crc.Statement.{statement}
-use Rattle.crc.proofs.crc.Tie as tie
+use Rattle.crc.proofs.one_by_one.Statement.{statement}
+use Rattle.crc.proofs.one_by_one.Tie as tie
 
 abbrev Inv-loop : tie.InvT-loop
-Inv-loop start octets register₀ i₀ register i = (i ≤ length octets) × (crcFrom start octets ≡ crcFrom register (drop i octets))
+Inv-loop tables start octets register₀ i₀ register i =
+    (i ≤ length octets) × (crcFrom start octets ≡ crcFrom register (drop i octets))
 
 abbrev μ-loop : tie.MeasureT-loop
-μ-loop start octets register₀ i₀ register i = length octets - i
+μ-loop tables start octets register₀ i₀ register i = length octets - i
 
 loop-holds : tie.Need-loop-holds Inv-loop μ-loop
 loop-holds c = (search needs, refl)
@@ -47,8 +48,8 @@ returns c =
     let xs : List ℕ = head .before .before .args .octets .now in
     sym (rw (drop-of-length-le xs {i = head .loop .i} (c .loop-test .left)) at (head .loop .inv .1))
 
-pub crc-spec : {M : Type 1} → statement M
-crc-spec =
+pub one-by-one-spec : {M : Type 1} → statement M
+one-by-one-spec =
     tie.close
     (tie.spec
     Inv-loop
