@@ -3,14 +3,14 @@
 use mathlib.Core.Path.{_≡_, refl, sym, ap, ap₂, _∙_}
 use mathlib.Core.Bool.{Bool, true, false, cond, xor}
 use mathlib.Core.List.{List, [], _∷_, _++_}
-use Prim.Native.Nat.{ℕ, _+_, _-_, _*_, _/_, _%_, _<_}
+use Prim.Native.Nat.{ℕ, _+_, _-_, _*_, _/_, _%_, _≤_, _<_}
 use native.Mathlib.Nat.{mod-eq-of-lt}
 use native.Mathlib.Numerals.{add-one}
 use native.Mathlib.Omega.{arith}
 use lib.Bits.{bitXor, xor-lt, xor-zero-r}
 use lib.Dec.{leb}
-use lib.ListN.{length, replicate, take, drop, getD, take-append-drop}
-use lib.Seq.{drop-cons, drop-drop}
+use lib.ListN.{length, replicate, take, drop, getD, take-append-drop, length-drop, drop-of-length-le}
+use lib.Seq.{drop-cons, drop-drop, take-all}
 use Rattle.crc.specs.Register.{generator, allOnes, bitsOf, moved, takeBit, takeBits, crcFrom, crcOf}
 use Rattle.crc.specs.Division.{plus, numberOf, presetOf}
 use Rattle.crc.proofs.Polynomial.{plus-self, length-plus, numberOf-append, numberOf-zeros, numberOf-plus, digitsOf, length-digitsOf, numberOf-digitsOf, numberOf-bitsOf, numberOf-presetOf}
@@ -26,13 +26,16 @@ unfolding crcFrom
 crcFrom-append r [] ys = refl
 crcFrom-append r (x ∷ xs) ys = crcFrom-append (takeBits r (bitsOf x)) xs ys
 
--- Some octets of a list are taken, and the rest is left.
-pub crcFrom-part : (r : ℕ) (xs : List ℕ) (i n : ℕ)
-    → crcFrom r (drop i xs) ≡ crcFrom (crcFrom r (take (i + n - i) (drop i xs))) (drop (i + n) xs)
-crcFrom-part r xs i n =
-    ap (crcFrom r) (sym (take-append-drop m (drop i xs)))
-    ∙ crcFrom-append r (take m (drop i xs)) (drop m (drop i xs))
-    ∙ ap (crcFrom (crcFrom r (take m (drop i xs)))) (drop-drop m i xs ∙ ap (λ (k : ℕ). drop k xs) behind)
+-- ---- a loop over octets
+
+-- What a loop keeps that has come to the place i with r in the register: from the start all octets give what from r those left give.
+abbrev pub Left : ℕ → List ℕ → ℕ → ℕ → Type 0
+Left start xs r i = (i ≤ length xs) × (crcFrom start xs ≡ crcFrom r (drop i xs))
+
+-- It takes some octets more.
+pub left-part : (start : ℕ) (xs : List ℕ) (r i n : ℕ) → Left start xs r i → i + n ≤ length xs
+    → Left start xs (crcFrom r (take (i + n - i) (drop i xs))) (i + n)
+left-part start xs r i n left h = (h, left .1 ∙ parted)
   where
     m : ℕ
     m = i + n - i
@@ -40,11 +43,30 @@ crcFrom-part r xs i n =
     behind : i + m ≡ i + n
     behind = omega arith
 
--- One octet of a list is taken, and the rest is left.
-pub crcFrom-drop : (r : ℕ) (xs : List ℕ) (i : ℕ) → i < length xs
-    → crcFrom r (drop i xs) ≡ crcFrom (takeBits r (bitsOf (getD xs i 0))) (drop (i + 1) xs)
+    parted : crcFrom r (drop i xs) ≡ crcFrom (crcFrom r (take m (drop i xs))) (drop (i + n) xs)
+    parted =
+        ap (crcFrom r) (sym (take-append-drop m (drop i xs)))
+        ∙ crcFrom-append r (take m (drop i xs)) (drop m (drop i xs))
+        ∙ ap (crcFrom (crcFrom r (take m (drop i xs)))) (drop-drop m i xs ∙ ap (λ (k : ℕ). drop k xs) behind)
+
+-- It takes one.
+pub left-octet : (start : ℕ) (xs : List ℕ) (r i : ℕ) → Left start xs r i → i < length xs
+    → Left start xs (takeBits r (bitsOf (getD xs i 0))) (i + 1)
 unfolding crcFrom
-crcFrom-drop r xs i h = rw (add-one, drop-cons xs i 0)
+left-octet start xs r i left h = (omega arith, rw add-one (rw (drop-cons xs i 0 h) at (left .1)))
+
+-- It has all octets left to take.
+pub left-rest : (start : ℕ) (xs : List ℕ) (r i : ℕ) → Left start xs r i
+    → crcFrom r (take (length xs - i) (drop i xs)) ≡ crcFrom start xs
+left-rest start xs r i left =
+    ap (crcFrom r) (take-all (length xs - i) (drop i xs) (omega (arith, length-drop i xs))) ∙ sym (left .1)
+
+-- It has taken all.
+pub left-none : (start : ℕ) (xs : List ℕ) (r i : ℕ) → Left start xs r i → length xs ≤ i → r ≡ crcFrom start xs
+unfolding crcFrom
+left-none start xs r i left h = sym (rw (drop-of-length-le xs {i = i} h) at (left .1))
+
+-- ---- the register
 
 -- One message bit leaves sixteen bits in the register.
 takeBit-lt : (r : ℕ) (b : Bool) → takeBit r b < 65536

@@ -1,20 +1,18 @@
--- `crc::in_turns` meets its contract. The loop's invariant: from the start all the octets give what from the register the octets left give.
+-- `crc::in_turns` meets its contract. The loop's invariant is `Left`.
 -- Assumes nothing.
-use mathlib.Core.Path.{_≡_, refl, sym, ap, _∙_}
+use mathlib.Core.Path.{_≡_, refl, _∙_}
 use mathlib.Core.List.{List}
-use Prim.Native.Nat.{ℕ, _+_, _-_, _≤_}
+use Prim.Native.Nat.{ℕ, _+_, _-_}
 use native.Mathlib.Omega.{arith}
-use lib.Seq.{take-all}
 use lib.ListN.{length, take, drop, length-take, length-drop}
-use Rattle.crc.specs.Register.{crcFrom}
 use borrow.Author.Needs.{needs}
-use Rattle.crc.proofs.Laws.{crcFrom-part}
+use Rattle.crc.specs.Register.{crcFrom}
+use Rattle.crc.proofs.Laws.{Left, left-part, left-rest}
 use Rattle.crc.proofs.in_turns.Statement.{statement}
 use Rattle.crc.proofs.in_turns.Tie as tie
 
 abbrev Inv-loop : tie.InvT-loop
-Inv-loop tables start octets register₀ i₀ register i =
-    (i ≤ length octets) × (crcFrom start octets ≡ crcFrom register (drop i octets))
+Inv-loop tables start octets register₀ i₀ register i = Left start octets register i
 
 abbrev μ-loop : tie.MeasureT-loop
 μ-loop tables start octets register₀ i₀ register i = length octets - i
@@ -52,11 +50,9 @@ loop-less c = search needs
 loop-again : tie.Need-loop-again Inv-loop μ-loop
 loop-again c =
     let head = c .before .before .before in
-    let xs : List ℕ = head .before .before .args .octets .now in
-    let i : ℕ = head .loop .i in
-    let r : ℕ = head .loop .register in
-    let rest : crcFrom r (drop i xs) ≡ crcFrom (c .take-turn .result) (drop (i + 4) xs) = rw (c .take-turn .ensures) (crcFrom-part r xs i 4) in
-    (search needs, head .loop .inv .1 ∙ rest)
+    let a = head .before .before .args in
+    let next : Left (a .start) (a .octets .now) (c .take-turn .result) (head .loop .i + 4) = rw (c .take-turn .ensures) (left-part (a .start) (a .octets .now) (head .loop .register) (head .loop .i) 4 (head .loop .inv) (search needs)) in
+    next
 
 sub-one-by-one : tie.Need-sub-one-by-one Inv-loop μ-loop
 sub-one-by-one c = search needs
@@ -73,12 +69,12 @@ one-by-one-requires c κs = search needs
 returns : tie.Need-returns Inv-loop μ-loop
 returns c =
     let head = c .before .before .before in
+    let start : ℕ = head .before .before .args .start in
     let xs : List ℕ = head .before .before .args .octets .now in
     let i : ℕ = head .loop .i in
     let r : ℕ = head .loop .register in
     let rest : c .one-by-one .result ≡ crcFrom r (take (length xs - i) (drop i xs)) = c .one-by-one .ensures in
-    let whole : take (length xs - i) (drop i xs) ≡ drop i xs = take-all (length xs - i) (drop i xs) (omega (arith, length-drop i xs)) in
-    rest ∙ ap (crcFrom r) whole ∙ sym (head .loop .inv .1)
+    rest ∙ left-rest start xs r i (head .loop .inv)
 
 pub in-turns-spec : {M : Type 1} → statement M
 in-turns-spec =

@@ -1,18 +1,15 @@
--- `crc::one_by_one` meets its contract. The loop's invariant: from the start all the octets give what from the register the octets left give.
+-- `crc::one_by_one` meets its contract. The loop's invariant is `Left`.
 -- Assumes nothing.
-use mathlib.Core.Path.{_≡_, refl, sym, _∙_}
-use mathlib.Core.List.{List}
-use Prim.Native.Nat.{ℕ, _+_, _-_, _≤_}
-use lib.ListN.{length, drop, drop-of-length-le}
-use Rattle.crc.specs.Register.{crcFrom}
+use mathlib.Core.Path.{refl}
+use Prim.Native.Nat.{_+_, _-_}
+use lib.ListN.{length}
 use borrow.Author.Needs.{needs}
-use Rattle.crc.proofs.Laws.{crcFrom-drop}
+use Rattle.crc.proofs.Laws.{Left, left-octet, left-none}
 use Rattle.crc.proofs.one_by_one.Statement.{statement}
 use Rattle.crc.proofs.one_by_one.Tie as tie
 
 abbrev Inv-loop : tie.InvT-loop
-Inv-loop tables start octets register₀ i₀ register i =
-    (i ≤ length octets) × (crcFrom start octets ≡ crcFrom register (drop i octets))
+Inv-loop tables start octets register₀ i₀ register i = Left start octets register i
 
 abbrev μ-loop : tie.MeasureT-loop
 μ-loop tables start octets register₀ i₀ register i = length octets - i
@@ -35,18 +32,15 @@ loop-less c = search needs
 loop-again : tie.Need-loop-again Inv-loop μ-loop
 loop-again c =
     let head = c .before .before .before in
-    let xs : List ℕ = head .before .before .args .octets .now in
-    let i : ℕ = head .loop .i in
-    let r : ℕ = head .loop .register in
-    let rest : crcFrom r (drop i xs) ≡ crcFrom (c .take-octet .result) (drop (i + 1) xs) = rw (c .take-octet .ensures) (crcFrom-drop r xs i (search needs)) in
-    (search needs, head .loop .inv .1 ∙ rest)
+    let a = head .before .before .args in
+    let next : Left (a .start) (a .octets .now) (c .take-octet .result) (head .loop .i + 1) = rw (c .take-octet .ensures) (left-octet (a .start) (a .octets .now) (head .loop .register) (head .loop .i) (head .loop .inv) (search needs)) in
+    next
 
 returns : tie.Need-returns Inv-loop μ-loop
-unfolding crcFrom
 returns c =
     let head = c .before in
-    let xs : List ℕ = head .before .before .args .octets .now in
-    sym (rw (drop-of-length-le xs {i = head .loop .i} (c .loop-test .left)) at (head .loop .inv .1))
+    let a = head .before .before .args in
+    left-none (a .start) (a .octets .now) (head .loop .register) (head .loop .i) (head .loop .inv) (c .loop-test .left)
 
 pub one-by-one-spec : {M : Type 1} → statement M
 one-by-one-spec =
