@@ -2,10 +2,11 @@
 -- Assumes nothing.
 use mathlib.Core.Path.{_≡_, refl, sym, ap, ap₂, _∙_}
 use mathlib.Core.List.{List, [], _∷_, _++_}
-use Prim.Native.Nat.{ℕ, zero, suc, _+_, _/_, _%_, _≤_, _<_}
+use Prim.Native.Nat.{ℕ, zero, suc, _+_, _-_, _/_, _%_, _≤_, _<_}
 use native.Mathlib.Nat.{add-zero}
+use native.Mathlib.Numerals.{add-one}
 use native.Mathlib.Omega.{arith}
-use lib.ListN.{length, take, drop, List·getD-eq-default}
+use lib.ListN.{length, take, drop, drop-of-length-le, List·getD-eq-default}
 use lib.Seq.{getD-append-seam, getD-append-add, drop-cons, take-at, take-all}
 use Rattle.octets.specs.Numbers.{Octets, octet, word16, word32, octets16, octets32}
 
@@ -61,6 +62,15 @@ run-drop s at (suc n) h =
     drop-cons s at 0 (omega arith)
     ∙ ap (λ (r : List ℕ). octet s at ∷ r)
     (run-drop s (suc at) n (omega arith) ∙ ap (λ (k : ℕ). run s (suc at) n ++ drop k s) end)
+
+-- The last two octets of a list.
+pub last-two : (s : List ℕ) → 2 ≤ length s → drop (length s - 2) s ≡ octet s (length s - 2) ∷ octet s (length s - 2 + 1) ∷ []
+unfolding run
+last-two s h =
+    let n : ℕ = length s - 2 in
+    run-drop s n 2 (omega arith)
+    ∙ ap (λ (r : List ℕ). run s n 2 ++ r) (drop-of-length-le s {i = n + 2} (omega arith))
+    ∙ ap (λ (m : ℕ). octet s n ∷ octet s m ∷ []) (sym (add-one n))
 
 -- A list that begins with its octets.
 pub run-take : (s : List ℕ) (at n : ℕ) → at + n ≤ length s → take n (drop at s) ≡ run s at n

@@ -10,8 +10,8 @@ use Rattle.octets.proofs.Octets.{between-octets}
 use Rattle.fields.specs.Fields.{packetId, sequence, header}
 use Rattle.checks.specs.declared.Refusal.{Refusal}
 use Rattle.checks.specs.Table.{Row}
-use Rattle.crc.proofs.Laws.{crc-lt}
-use Rattle.tc.specs.Layout.{errorControl, covered, fieldsOf, applicationOf}
+use Rattle.tc.specs.Layout.{covered, rightControl, fieldsOf, applicationOf}
+use Rattle.tc.proofs.Laying.{control-lt}
 use Rattle.heading.specs.Heading.{headerTests, firstFault, headerFault}
 use Rattle.reader.specs.Reader.{readerRows}
 
@@ -36,9 +36,8 @@ header-small : (packet : List ℕ) → headerFault packet < 65536
 unfolding headerFault firstFault
 header-small packet = omega (arith, first-most 1 (headerTests (packetId (word16 packet 0)) (sequence (word16 packet 2)) (header (octet packet 6))))
 
-control-small : (packet : List ℕ) → errorControl (covered packet) < 65536
-unfolding errorControl
-control-small packet = crc-lt (covered packet)
+control-small : (packet : List ℕ) → rightControl packet < 65536
+control-small packet = control-lt (fieldsOf packet) (covered packet)
 
 -- The detail of each of the reader's rows has 16 bits.
 pub reader-details : (packet : List ℕ) → Each (λ (r : Row Refusal). r .refusal .detail < 65536) (readerRows packet)

@@ -11,7 +11,7 @@ use Rattle.checks.specs.declared.Check.the-variants.{Short, Length, Control, He
 use Rattle.checks.specs.declared.Verdict.the-variants.{Accepted, Refused}
 use Rattle.checks.specs.Verdict.{refusal}
 use Rattle.checks.specs.Table.{answer}
-use Rattle.tc.specs.Layout.{errorControl, covered}
+use Rattle.tc.specs.Layout.{rightControl}
 use Rattle.reader.specs.Reader.{leastOctets, mostDetail, judged, readerRows, controlRight}
 use Rattle.heading.specs.Heading.{lengthRight, headerFault}
 
@@ -24,7 +24,7 @@ module _ (p : List ℕ) where
   unfolding judged readerRows answer
   judged-length h l = simp (le-leb _ _ h, l)
 
-  pub judged-control : leastOctets ≤ length p → lengthRight p ≡ true → controlRight p ≡ false → judged p ≡ Refused (refusal Control (errorControl (covered p)))
+  pub judged-control : leastOctets ≤ length p → lengthRight p ≡ true → controlRight p ≡ false → judged p ≡ Refused (refusal Control (rightControl p))
   unfolding judged readerRows answer
   judged-control h l k = simp (le-leb _ _ h, l, k)
 

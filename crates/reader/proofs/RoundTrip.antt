@@ -4,16 +4,15 @@ use mathlib.Core.Path.{_≡_, sym, ap, ap₂, _∙_}
 use mathlib.Core.Bool.{Bool, true, _&&_, and-eq-true-iff}
 use mathlib.Core.List.{List, [], _∷_, _++_}
 use Prim.Native.Nat.{ℕ, _+_, _-_, _≤_, _<_}
-use native.Mathlib.Numerals.{add-one}
 use native.Mathlib.Omega.{arith}
-use lib.ListN.{length, take, drop, take-append-drop, drop-of-length-le}
+use lib.ListN.{length, take, drop, take-append-drop}
 use lib.Dec.{eqb, leb}
 use lib.Seq.{take-add, take-at}
 use borrow.Author.Tests.{le-leb, eq-eqb, leb-true, eqb-true}
 use Rattle.octets.specs.Numbers.{Octets, octet, word16, octets16}
 use Rattle.fields.specs.Fields.{packetId, idOf, sequence, controlOf, header, headerOf}
 use Rattle.octets.proofs.Between.{between-eq, between-length}
-use Rattle.octets.proofs.Words.{word16-behind, octets16-of-word16, run, run-drop, run-take}
+use Rattle.octets.proofs.Words.{word16-behind, octets16-of-word16, run, run-take, last-two}
 use Rattle.checks.specs.declared.Verdict.the-variants.{Accepted}
 use Rattle.checks.specs.Verdict.{isAccepted}
 use Rattle.checks.specs.Table.{AllHold}
@@ -22,7 +21,7 @@ use Rattle.laws.specs.First.{firstFrom}
 use Rattle.laws.specs.Each.{Each}
 use Rattle.laws.proofs.First.{none-wrong}
 use Rattle.tc.specs.declared.Fields.{Fields}
-use Rattle.tc.specs.Layout.{around, dataMost, errorControl, covered, fieldsOf, applicationOf, headOf, bodyOf, packetOf}
+use Rattle.tc.specs.Layout.{around, dataMost, errorControl, covered, rightControl, fieldsOf, applicationOf, headOf, bodyOf, packetOf}
 use Rattle.heading.specs.Heading.{lengthRight, headerTests, firstFault, headerFault}
 use Rattle.reader.specs.Reader.{controlRight, readerRows, judged, readingOf, dataRead}
 use Rattle.reader.proofs.Judged.{judged-accepted}
@@ -52,16 +51,7 @@ module _ (f : Fields) (application : List ℕ) (v : Valid f) (short : length app
   unfolding packetOf
   packet-covered =
       let end : length (bodyOf f application) ≡ length p - 2 = omega (arith, size, body-length f application) in
-      take-at (bodyOf f application) (octets16 (errorControl (bodyOf f application))) (length p - 2) end
-
-  packet-controlRight : controlRight p ≡ true
-  unfolding controlRight packetOf
-  packet-controlRight =
-      let end : length p - 2 ≡ length (bodyOf f application) = omega (arith, size, body-length f application) in
-      eq-eqb _ _
-      (ap (λ (n : ℕ). word16 p n) end
-      ∙ word16-behind (bodyOf f application) (errorControl (bodyOf f application)) []
-      ∙ ap errorControl (sym packet-covered))
+      take-at (bodyOf f application) (octets16 (errorControl f (bodyOf f application))) (length p - 2) end
 
   packet-headerFault : headerFault p ≡ 0
   unfolding headerFault firstFault firstFrom packetOf bodyOf headOf
@@ -73,10 +63,6 @@ module _ (f : Fields) (application : List ℕ) (v : Valid f) (short : length app
       let pus : header (octet p 6) .version ≡ 0 = omega arith in
       simp (eq-eqb _ _ version, eq-eqb _ _ kind, eq-eqb _ _ flag, eq-eqb _ _ flags, eq-eqb _ _ pus)
 
-  pub packet-judged : judged p ≡ Accepted
-  packet-judged =
-      judged-accepted p (omega (arith, size)) packet-lengthRight packet-controlRight (eq-eqb _ _ packet-headerFault)
-
   pub packet-fields : fieldsOf p ≡ f
   unfolding fieldsOf packetOf bodyOf headOf
   packet-fields =
@@ -86,19 +72,32 @@ module _ (f : Fields) (application : List ℕ) (v : Valid f) (short : length app
       let ack : header (octet p 6) .ack ≡ f .ack = omega arith in
       λ i. record { apid = apid i; count = count i; checksum = checksum i; ack = ack i; kind = f .kind; subtype = f .subtype; pad = f .pad }
 
+  packet-controlRight : controlRight p ≡ true
+  unfolding controlRight packetOf
+  packet-controlRight =
+      let end : length p - 2 ≡ length (bodyOf f application) = omega (arith, size, body-length f application) in
+      eq-eqb _ _
+      (ap (λ (n : ℕ). word16 p n) end
+      ∙ word16-behind (bodyOf f application) (errorControl f (bodyOf f application)) []
+      ∙ sym (ap₂ errorControl packet-fields packet-covered))
+
+  pub packet-judged : judged p ≡ Accepted
+  packet-judged =
+      judged-accepted p (omega (arith, size)) packet-lengthRight packet-controlRight (eq-eqb _ _ packet-headerFault)
+
   pub packet-application : applicationOf p ≡ application
   unfolding applicationOf packetOf bodyOf headOf
   packet-application =
       let end : length application ≡ length p - 2 - 10 = omega (arith, size) in
       between-eq 10 (length p - 2) p (omega (arith, size)) (omega arith)
-      ∙ take-at application (octets16 (errorControl (bodyOf f application))) (length p - 2 - 10) end
+      ∙ take-at application (octets16 (errorControl f (bodyOf f application))) (length p - 2 - 10) end
 
 -- What an accepted packet's octets are, number by number.
 record Clean (p : List ℕ) : Type 0 where
   least : 12 ≤ length p
   most : length p ≤ 248
   total : length p ≡ word16 p 4 + 7
-  control : word16 p (length p - 2) ≡ errorControl (covered p)
+  control : word16 p (length p - 2) ≡ rightControl p
   version : packetId (word16 p 0) .version ≡ 0
   kind : packetId (word16 p 0) .kind ≡ 1
   flag : packetId (word16 p 0) .header ≡ 1
@@ -158,21 +157,17 @@ module _ (p : List ℕ) (octets : Octets p) (h : judged p ≡ Accepted) where
       ap₂ (λ (a b : List ℕ). a ++ b) (clean-head ∙ sym (run-take p 0 10 (omega (arith, k .least)))) part
       ∙ sym (take-add 10 (n - 10) p) ∙ ap (λ (m : ℕ). take m p) n′
 
-  clean-control : octets16 (errorControl (covered p)) ≡ drop (length p - 2) p
-  unfolding run
+  clean-control : octets16 (rightControl p) ≡ drop (length p - 2) p
   clean-control =
       let n : ℕ = length p - 2 in
       ap octets16 (sym (k .control))
       ∙ octets16-of-word16 p n (octets n) (octets (n + 1))
-      ∙ ap (λ (m : ℕ). octet p n ∷ octet p m ∷ []) (add-one n)
-      ∙ sym
-      (run-drop p n 2 (omega (arith, k .least))
-      ∙ ap (λ (r : List ℕ). run p n 2 ++ r) (drop-of-length-le p {i = n + 2} (omega (arith, k .least))))
+      ∙ sym (last-two p (omega (arith, k .least)))
 
   pub clean-packet : packetOf (fieldsOf p) (applicationOf p) ≡ p
   unfolding packetOf
   clean-packet =
-      ap (λ (b : List ℕ). b ++ octets16 (errorControl b)) clean-body
+      ap (λ (b : List ℕ). b ++ octets16 (errorControl (fieldsOf p) b)) clean-body
       ∙ ap (λ (r : List ℕ). covered p ++ r) clean-control
       ∙ take-append-drop (length p - 2) p
 

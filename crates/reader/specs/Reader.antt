@@ -14,7 +14,7 @@ use Rattle.checks.specs.Verdict.{isAccepted, row, verdictBy}
 use Rattle.octets.specs.Copy.{placed, nowhere}
 use Rattle.tc.specs.declared.Fields.{Fields}
 use Rattle.reader.specs.declared.Reading.{Reading}
-use Rattle.tc.specs.Layout.{errorControl, covered, fieldsOf, dataSpan}
+use Rattle.tc.specs.Layout.{rightControl, fieldsOf, dataSpan}
 use Rattle.heading.specs.Heading.{lengthRight, headerFault}
 
 -- The fewest octets that can be answered with a report.
@@ -27,14 +27,14 @@ mostDetail = 65535
 
 -- The error control received, the last two octets, is the right value.
 unfoldable pub controlRight : List ℕ → Bool
-controlRight p = eqb (word16 p (length p - 2)) (errorControl (covered p))
+controlRight p = eqb (word16 p (length p - 2)) (rightControl p)
 
 -- The reader's rows of the table, in its order.
 unfoldable pub readerRows : List ℕ → List (Row Refusal)
 readerRows p =
     row Short 0 (leb leastOctets (length p))
     ∷ row Length (min (length p) mostDetail) (lengthRight p)
-    ∷ row Control (errorControl (covered p)) (controlRight p)
+    ∷ row Control (rightControl p) (controlRight p)
     ∷ row BadHeader (headerFault p) (eqb (headerFault p) 0)
     ∷ []
 

@@ -31,9 +31,9 @@ packetMost = 248
 abbrev pub countMost : ℕ
 countMost = 16383
 
--- Error control over some octets: the CRC of document 01, whatever the checksum flag says.
-unfoldable pub errorControl : List ℕ → ℕ
-errorControl octets = crcOf octets
+-- The error control of a packet with these fields, over some octets: the CRC of document 01, whatever the checksum flag says.
+unfoldable pub errorControl : Fields → List ℕ → ℕ
+errorControl f octets = crcOf octets
 
 -- The octets that a packet's error control is over: every earlier one.
 abbrev pub covered : List ℕ → List ℕ
@@ -50,6 +50,10 @@ fieldsOf p = record {
   subtype = octet p 8;
   pad = octet p 9;
 }
+
+-- The right error control of a packet.
+abbrev pub rightControl : List ℕ → ℕ
+rightControl p = errorControl (fieldsOf p) (covered p)
 
 -- Where the application data stands: from octet 10 up to the error control.
 abbrev pub dataSpan : List ℕ → Span
@@ -73,4 +77,4 @@ bodyOf f application = headOf f (length application) ++ application
 
 -- The whole packet.
 unfoldable pub packetOf : Fields → List ℕ → List ℕ
-packetOf f application = bodyOf f application ++ octets16 (errorControl (bodyOf f application))
+packetOf f application = bodyOf f application ++ octets16 (errorControl f (bodyOf f application))

@@ -1,6 +1,6 @@
 // Telecommand packets of document 01: the layout that reader and writer share.
 ghost use mathlib.Core.Path.{_≡_};
-ghost use Rattle.tc.specs.Layout.{errorControl};
+ghost use Rattle.crc.specs.Register.{crcOf};
 
 pub mod places;
 
@@ -25,7 +25,7 @@ pub struct Fields {
 
 // Error control over some octets, for the reader and the writer alike.
 pub fn error_control(octets: &[u8]) -> u16
-    ensures { λ r. ⌜ r ≡ errorControl (now (octets .entry)) ⌝ }
+    ensures { λ r. ⌜ r ≡ crcOf (now (octets .entry)) ⌝ }
 {
     crc::crc(crc::ALL_ONES, octets)
 }

@@ -7,7 +7,7 @@ ghost use mathlib.Core.Path.{_≡_};
 ghost use Prim.Native.Nat.{_-_};
 ghost use Rattle.octets.specs.Numbers.{octet};
 ghost use Rattle.fields.specs.Fields.{header};
-ghost use Rattle.tc.specs.Layout.{errorControl, covered, fieldsOf, dataSpan};
+ghost use Rattle.tc.specs.Layout.{rightControl, fieldsOf, dataSpan};
 
 // Where the application data stands: from octet 10 up to the error control.
 pub fn data_span(p: &[u8]) -> Span
@@ -28,7 +28,7 @@ pub fn control_at(octets: usize) -> usize
 
 // The right error control of a packet: over every octet but the last two.
 pub fn control(p: &[u8]) -> u16
-    ensures { λ r. ⌜ r ≡ errorControl (covered (now (p .entry))) ⌝ }
+    ensures { λ r. ⌜ r ≡ rightControl (now (p .entry)) ⌝ }
 {
     crate::error_control(octets::copy::part(p, 0, control_at(p.len())))
 }

@@ -6,6 +6,7 @@ use native.Mathlib.Omega.{arith}
 use lib.ListN.{length}
 use denote.Ref.{now}
 use borrow.Author.Needs.{needs}
+use Rattle.crc.specs.Register.{crcOf}
 use Rattle.tc.specs.Layout.{errorControl}
 use Rattle.octets.proofs.Between.{between-front}
 use Rattle.octets.specs.Copy.{between}
@@ -22,10 +23,11 @@ error-control-requires : tie.Need-error-control-requires
 error-control-requires c κs = search needs
 
 returns : tie.Need-returns
+unfolding errorControl
 returns c =
     let p = now (c .before .before .before .before .args .p) in
     c .error-control .ensures
-    ∙ ap errorControl
+    ∙ ap crcOf
     (c .before .part .ensures
     ∙ ap (λ (n : ℕ). between 0 n p) (c .before .before .control-at .ensures)
     ∙ between-front (length p - 2) p (omega arith))
