@@ -62,6 +62,17 @@ isProfile given =
 unfoldable pub isBuffer : List ℕ → Bool
 isBuffer given = eqb (length given) 3 && leb (word16 given 0) 8192
 
+-- How many octets an order to the writer has before its data, and where its checksum flag stands.
+abbrev pub orderOctets : ℕ
+orderOctets = 9
+
+abbrev pub flagAt : ℕ
+flagAt = 4
+
+-- An order, and a checksum flag of 0 or 1.
+unfoldable pub isOrder : List ℕ → Bool
+isOrder given = leb orderOctets (length given) && leb (octet given flagAt) 1
+
 -- How many octets the value is that a CRC goes on from.
 abbrev pub startOctets : ℕ
 startOctets = 2
@@ -77,7 +88,7 @@ takes letter given =
     (cond (eqb letter letterB) (isBuffer given)
     (cond (eqb letter letterX) (leb (length given) 69999)
     (cond (eqb letter letterR) true
-    (cond (eqb letter letterW) (leb 8 (length given))
+    (cond (eqb letter letterW) (isOrder given)
     (cond (eqb letter letterC) true
     (cond (eqb letter letterD) (leb startOctets (length given))
     (cond (eqb letter letterF) (leb (length given) 69999) false)))))))))))

@@ -8,7 +8,7 @@ use crate::session::STORE_ROOM;
 use crate::session::TIME_OCTETS;
 ghost use mathlib.Core.Path.{_≡_};
 ghost use lib.ListN.{drop};
-ghost use Rattle.commands.specs.Form.{isLine, standsAlone, rightsKnown, isProfile, isBuffer, takes, commandOf};
+ghost use Rattle.commands.specs.Form.{isLine, standsAlone, rightsKnown, isProfile, isBuffer, isOrder, takes, commandOf};
 
 // The most octets that a line gives, and the most characters of a line: a letter, a space, and two digits for each.
 pub const GIVEN_MOST: usize = 70000;
@@ -18,8 +18,10 @@ pub const LINE_MOST: usize = 140002;
 // The most octets of a packet at the terminal, and of a frame.
 const PACKET_MOST: usize = 69999;
 
-// The octets of an order to the writer before its data.
-const ORDER_OCTETS: usize = 8;
+// The octets of an order to the writer before its data, and where its checksum flag stands.
+pub const ORDER_OCTETS: usize = 9;
+
+pub const FLAG_AT: usize = 4;
 
 // The octets of the value that a CRC goes on from.
 pub const START_OCTETS: usize = 2;
@@ -99,7 +101,7 @@ fn takes(letter: u8, given: &[u8]) -> bool
         b'B' => is_buffer(given),
         b'X' => n <= PACKET_MOST,
         b'R' => true,
-        b'W' => ORDER_OCTETS <= n,
+        b'W' => is_order(given),
         b'C' => true,
         b'D' => START_OCTETS <= n,
         b'F' => n <= PACKET_MOST,
@@ -149,4 +151,14 @@ fn is_buffer(given: &[u8]) -> bool
         return false;
     }
     (octets::numbers::word16_at(given, 0) as usize) <= OUT_ROOM
+}
+
+// An order to the writer, and a checksum flag of 0 or 1.
+fn is_order(given: &[u8]) -> bool
+    ensures { λ r. ⌜ r ≡ isOrder (now (given .entry)) ⌝ }
+{
+    if given.len() < ORDER_OCTETS {
+        return false;
+    }
+    octets::numbers::octet_at(given, FLAG_AT) <= 1
 }

@@ -6,6 +6,7 @@ pub mod Demand3
 pub mod Determined
 pub mod Determines
 pub mod Largest
+pub mod Methods
 pub mod Numbered
 pub mod Numbers
 pub mod Parting

@@ -19,6 +19,7 @@ use Rattle.checks.specs.declared.Verdict.the-variants.{Accepted, Refused}
 use Rattle.checks.specs.Verdict.{isAccepted}
 use Rattle.tc.specs.Layout.{dataSpan}
 use Rattle.reader.specs.Reader.{readerRows, judged, readingOf}
+use Rattle.tc.specs.declared.Method.the-variants.{Crc}
 use Rattle.writer.specs.declared.Order.{Order}
 use Rattle.writer.specs.declared.Written.{Written}
 use Rattle.writer.specs.declared.Written.the-variants.{Packet, BadField, BadData, NoRoom}
@@ -243,7 +244,7 @@ leaking-reader-fails read leaks refuses =
 pub never-writing-fails : (w : Writer) (read : Reader) → NeverWrites w → RoundTrips w read → ⊥
 unfolding all
 never-writing-fails w read never trips =
-    let o : Order = record { pid = 5; count = 0; ack = 0; kind = 17; subtype = 1 } in
+    let o : Order = record { pid = 5; count = 0; ack = 0; method = Crc; kind = 17; subtype = 1 } in
     let x = trips .reads-back o [] (replicate 12 0) (record { fields = refl; short = omega arith; room = omega arith }) in
     false≢true (sym (never o [] (replicate 12 0)) ∙ ap isPacket (x .answer))
 
@@ -256,7 +257,7 @@ refused-not-packet NoRoom h = refl
 -- A buffer that is touched by a write with a PID of 200.
 pub touching-writer-fails : (w : Writer) → Touches w → WriterRefuses w → ⊥
 touching-writer-fails w touches refuses =
-    let o : Order = record { pid = 200; count = 0; ack = 0; kind = 17; subtype = 1 } in
+    let o : Order = record { pid = 200; count = 0; ack = 0; method = Crc; kind = 17; subtype = 1 } in
     let kept = refuses .keeps o [] (0 ∷ []) (refused-not-packet (w o [] (0 ∷ []) .answer) (refuses .field-50 o [] (0 ∷ []) refl)) in
     let z : _≡_ {A = ℕ} 0 24 = ap (λ (b : List ℕ). octet b 0) (sym kept ∙ touches o [] []) in
     omega arith

@@ -17,7 +17,7 @@ use Rattle.octets.proofs.Laid.{laid-eq}
 use Rattle.tc.specs.declared.Fields.{Fields}
 use Rattle.tc.specs.Layout.{category, countMost, around, packetOf}
 use Rattle.reader.specs.Reader.{readingOf, dataRead}
-use Rattle.tc.proofs.Laying.{packet-length}
+use Rattle.tc.proofs.Laying.{flag-lt, selected-flag, packet-length}
 use Rattle.reader.proofs.RoundTrip.{Valid, packet-reads, clean-reads}
 use Rattle.writer.specs.declared.Order.{Order}
 use Rattle.writer.specs.declared.Written.the-variants.{Packet}
@@ -35,7 +35,7 @@ order-valid o right =
     let pid : o .pid ≤ 127 = leb-true _ _ (first .0) in
     let count : o .count ≤ countMost = leb-true _ _ (first .1) in
     let ack : o .ack ≤ 15 = leb-true _ _ (all .1) in
-    record { apid = omega arith; count = omega arith; checksum = omega arith; ack = omega arith }
+    record { apid = omega arith; count = omega arith; checksum = flag-lt (o .method); ack = omega arith }
 
 -- An order that can be written leaves its packet at the front of the buffer, and what was behind it.
 written-buffer : (o : Order) (data′ buffer : List ℕ) → Writable o data′ buffer
@@ -68,7 +68,7 @@ module _ (o : Order) (data′ buffer : List ℕ) (w : Writable o data′ buffer)
 restored : (f : Fields) → Valid f → Ordinary f → fieldsFor (orderOf f) ≡ f
 restored f v o =
     let apid : apidOf (f .apid / 16) category ≡ f .apid = omega (arith, v .apid, o .category-is) in
-    λ i. record { apid = apid i; count = f .count; checksum = sym (o .checksum-is) i; ack = f .ack; kind = f .kind; subtype = f .subtype; pad = sym (o .pad-is) i }
+    λ i. record { apid = apid i; count = f .count; checksum = selected-flag (f .checksum) (v .checksum) i; ack = f .ack; kind = f .kind; subtype = f .subtype; pad = sym (o .pad-is) i }
 
 order-right : (f : Fields) → Valid f → fieldsRight (orderOf f) ≡ true
 order-right f v =

@@ -4,6 +4,7 @@ use mathlib.Core.List.{List, [], _∷_, _++_}
 use Prim.Native.Nat.{ℕ}
 use lib.ListN.{replicate}
 use Rattle.octets.specs.Numbers.{octets16, octets32}
+use Rattle.tc.specs.declared.Method.the-variants.{Crc}
 use Rattle.tc.specs.Layout.{packetOf}
 use Rattle.writer.specs.Writer.{fieldsFor}
 use Rattle.map.specs.declared.Profile.{Profile}
@@ -13,9 +14,9 @@ use Rattle.decide.specs.declared.State.{State}
 use Rattle.terminal.specs.Outcome.{Input, input}
 use Rattle.lineunit.specs.Unit.{lineProfile, lineTime, lineStore, lineOut}
 
--- A telecommand of a type and subtype to PID 5, count 0, that asks for both reports.
+-- A telecommand of a type and subtype to PID 5, count 0, that asks for both reports, with the CRC.
 abbrev pub command : ℕ → ℕ → List ℕ → List ℕ
-command kind subtype application = packetOf (fieldsFor (record { pid = 5; count = 0; ack = 9; kind = kind; subtype = subtype })) application
+command kind subtype application = packetOf (fieldsFor (record { pid = 5; count = 0; ack = 9; method = Crc; kind = kind; subtype = subtype })) application
 
 -- A block's start and its length in words.
 abbrev pub block : ℕ → ℕ → List ℕ

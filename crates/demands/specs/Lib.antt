@@ -7,5 +7,6 @@ pub mod Widening
 pub mod StandIns
 pub mod Cases
 pub mod Listing
+pub mod Methods
 pub mod Parting
 pub mod Telemetry

@@ -6,7 +6,7 @@ use lib.ListN.{length}
 use Rattle.octets.specs.Copy.{placed}
 use Rattle.tc.specs.declared.Fields.{Fields}
 use Rattle.reader.specs.declared.Reading.{Reading}
-use Rattle.tc.specs.Layout.{category}
+use Rattle.tc.specs.Layout.{category, methodOf}
 use Rattle.reader.specs.Reader.{readingOf}
 use Rattle.writer.specs.declared.Order.{Order}
 use Rattle.writer.specs.declared.Written.{Written}
@@ -29,7 +29,7 @@ pub record Write : Type 0 where
 abbrev pub Writer : Type 0
 Writer = Order → List ℕ → List ℕ → Write
 
--- The reader and the writer of document 01; the contracts of `tc::reader::read` and `writer::write` permit no other answer.
+-- The reader and the writer of document 01; the contracts of `reader::read` and `writer::write` permit no other answer.
 abbrev pub referenceReader : Reader
 referenceReader = readingOf
 
@@ -38,10 +38,9 @@ referenceWriter o data′ buffer = record { answer = writtenOf o (length data′
 
 -- The order that a packet with those fields was written from.
 abbrev pub orderOf : Fields → Order
-orderOf f = record { pid = f .apid / 16; count = f .count; ack = f .ack; kind = f .kind; subtype = f .subtype }
+orderOf f = record { pid = f .apid / 16; count = f .count; ack = f .ack; method = methodOf (f .checksum); kind = f .kind; subtype = f .subtype }
 
--- The ordinary category, checksum flag and pad.
+-- The ordinary category and pad; since document 02, wish 3, the checksum flag is any.
 pub record Ordinary (f : Fields) : Type 0 where
   pub category-is : f .apid % 16 ≡ category
-  pub checksum-is : f .checksum ≡ 1
   pub pad-is : f .pad ≡ 0

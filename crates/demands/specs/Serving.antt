@@ -1,4 +1,4 @@
--- The inspector's second demand, of any terminal, reader and writer: "Reports, counters and memory after each packet are exactly those of the rules in document 01 [..]. A packet written from valid fields reads back as those fields. A packet that reads cleanly, with the ordinary category, checksum flag and pad, is written back as the same octets." (After a refused packet: Refusing.)
+-- The inspector's second demand, of any terminal, reader and writer: "Reports, counters and memory after each packet are exactly those of the rules in document 01 [..]. A packet written from valid fields reads back as those fields. A packet that reads cleanly, with the ordinary category, checksum flag and pad, is written back as the same octets." Since document 02, wish 3, the checksum flag is any: "reading and writing back no longer need flag 1". (After a refused packet: Refusing.)
 use mathlib.Core.Path.{_≡_}
 use mathlib.Core.Bool.{true}
 use mathlib.Core.List.{List, [], _∷_, _++_, List·Memᴰ}

@@ -7,13 +7,12 @@ use native.Mathlib.Nat.{le-of-suc-le-suc, not-suc-le-zero}
 use native.Mathlib.Omega.{arith}
 use lib.ListN.{length, take, replicate, length-append, length-replicate}
 use lib.Seq.{take-at}
-use Rattle.octets.specs.Numbers.{word16}
 use Rattle.writer.specs.declared.Written.{Written}
 use Rattle.writer.specs.Writer.{Writes, writtenOf, bufferAfter}
 use Rattle.saying.specs.Text.{space, lineOf, Says}
 use Rattle.printing.specs.Answer.{writtenText}
 use Rattle.saying.proofs.Saying.{says-append}
-use Rattle.showing.specs.Shows.{orderIn, dataIn, writerBuffer, writeText}
+use Rattle.showing.specs.Shows.{orderIn, roomIn, dataIn, writerBuffer, writeText}
 
 -- The first of many equal octets are as many of them.
 pub take-replicate : (n m x : ℕ) → n ≤ m → take n (replicate m x) ≡ replicate n x
@@ -31,14 +30,14 @@ front-inside p q n e = simp length-append (omega arith)
 
 -- The writer's answer and then the front of the array that it wrote into are what the command prints.
 pub write-says : {lent buffer text text₁ text₂ : List ℕ} {at room r₁ r₂ : ℕ} {w : Written} (given rest : List ℕ)
-    → room ≡ word16 given 6 → lent ≡ replicate room 0xEE → length buffer ≡ room
+    → room ≡ roomIn given → lent ≡ replicate room 0xEE → length buffer ≡ room
     → Writes (orderIn given) (dataIn given) lent w buffer
     → Says (writtenText w) at text r₁ text₁
     → Says (space ∷ lineOf (take room (buffer ++ rest))) r₁ text₁ r₂ text₂
     → Says (writeText given) at text r₂ text₂
 unfolding writeText
 write-says {buffer = buffer} {room = room} {w = w} given rest asked equal long written code octets =
-    let answer : w ≡ writtenOf (orderIn given) (length (dataIn given)) (word16 given 6) =
+    let answer : w ≡ writtenOf (orderIn given) (length (dataIn given)) (roomIn given) =
     written .answer-is ∙ ap (writtenOf (orderIn given) (length (dataIn given))) (ap length equal ∙ length-replicate room 0xEE ∙ asked) in
     let left : take room (buffer ++ rest) ≡ bufferAfter (orderIn given) (dataIn given) (writerBuffer given) =
     take-at buffer rest room long ∙ written .buffer-is ∙ ap (bufferAfter (orderIn given) (dataIn given)) (equal ∙ ap (λ (n : ℕ). replicate n 0xEE) asked) in

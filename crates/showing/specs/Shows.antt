@@ -9,6 +9,7 @@ use Rattle.octets.specs.Numbers.{octet, word16, octets16}
 use Rattle.octets.specs.Copy.{laid, between}
 use Rattle.lines.specs.Feed.{Lent}
 use Rattle.crc.specs.Register.{allOnes, crcFrom}
+use Rattle.tc.specs.Layout.{methodOf}
 use Rattle.writer.specs.declared.Order.{Order}
 use Rattle.reader.specs.Reader.{readingOf, dataRead}
 use Rattle.writer.specs.Writer.{writtenOf, bufferAfter}
@@ -16,7 +17,7 @@ use Rattle.wider.specs.Wider.{wider}
 use Rattle.terminal.specs.declared.Outcome.{Outcome}
 use Rattle.terminal.specs.Outcome.{Input, input, verdictOn, octetsDue, outcomeOf, storeOn, outAfter}
 use Rattle.commands.specs.declared.session.Session.{Session}
-use Rattle.commands.specs.Form.{startOctets}
+use Rattle.commands.specs.Form.{orderOctets, flagAt, startOctets}
 use Rattle.commands.specs.Session.{withState, profileIn}
 use Rattle.saying.specs.Text.{space, lineOf, Says}
 use Rattle.printing.specs.Answer.{verdictText, countsText, fieldsText, writtenText}
@@ -60,21 +61,24 @@ answering b packet = record { said = answerText (inputAt b packet); after = benc
 unfoldable pub readText : List ℕ → List ℕ
 readText packet = verdictText (readingOf packet .verdict) ++ (fieldsText (readingOf packet .fields) ++ space ∷ lineOf (dataRead packet))
 
--- W: the order's PID, count, ack, type and subtype, the room, and the data.
+-- W: the order's PID, count, ack, checksum flag, type and subtype, the room, and the data.
 abbrev pub orderIn : List ℕ → Order
-orderIn given = record { pid = octet given 0; count = word16 given 1; ack = octet given 3; kind = octet given 4; subtype = octet given 5 }
+orderIn given = record { pid = octet given 0; count = word16 given 1; ack = octet given 3; method = methodOf (octet given flagAt); kind = octet given 5; subtype = octet given 6 }
+
+abbrev pub roomIn : List ℕ → ℕ
+roomIn given = word16 given 7
 
 abbrev pub dataIn : List ℕ → List ℕ
-dataIn given = between 8 (length given) given
+dataIn given = between orderOctets (length given) given
 
 -- The buffer that the writer is given: as long as the room, each octet EE.
 abbrev pub writerBuffer : List ℕ → List ℕ
-writerBuffer given = replicate (word16 given 6) 0xEE
+writerBuffer given = replicate (roomIn given) 0xEE
 
 -- The writer's answer, and the whole buffer.
 unfoldable pub writeText : List ℕ → List ℕ
 writeText given =
-    writtenText (writtenOf (orderIn given) (length (dataIn given)) (word16 given 6))
+    writtenText (writtenOf (orderIn given) (length (dataIn given)) (roomIn given))
     ++ space ∷ lineOf (bufferAfter (orderIn given) (dataIn given) (writerBuffer given))
 
 -- The CRC from a start over some octets, on a line.

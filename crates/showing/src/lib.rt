@@ -1,4 +1,6 @@
 // The commands that print what the terminal, the reader, the writer, the CRC or the profiles answer.
+use commands::form::FLAG_AT;
+use commands::form::ORDER_OCTETS;
 use commands::form::START_OCTETS;
 use commands::session;
 use commands::session::Session;
@@ -11,6 +13,9 @@ ghost use Prim.Native.Nat.{min};
 ghost use Rattle.saying.specs.Text.{SaysBy};
 ghost use Rattle.writer.specs.Writer.{Writes};
 ghost use Rattle.showing.specs.Shows.{benchOf, inputAt, AnsweredAt, ServedBy, answering, readText, orderIn, dataIn, writeText, valueText, controlText, goingOnText, widerText};
+
+// Where the room stands behind an order.
+const ROOM_AT: usize = 7;
 
 // The longest buffer that the writer is given.
 const PACKET_ROOM: usize = 65536;
@@ -77,7 +82,7 @@ pub fn write(given: &[u8], text: &mut [u8], at: usize) -> usize
     ensures { λ r. ⌜ SaysBy (writeText (now (given .entry))) at text r ⌝ }
 {
     let mut packet = [0xEEu8; PACKET_ROOM];
-    let room = octets::numbers::word16_at(given, 6) as usize;
+    let room = octets::numbers::word16_at(given, ROOM_AT) as usize;
     let written = written_into(given, &mut packet[..room]);
     let code = answer::put_written(text, at, written);
     saying::last(text, code, &packet[..room])
@@ -89,12 +94,12 @@ fn written_into(given: &[u8], buffer: &mut [u8]) -> Written
 {
     writer::write(
         order_in(given),
-        octets::copy::part(given, 8, given.len()),
+        octets::copy::part(given, ORDER_OCTETS, given.len()),
         buffer,
     )
 }
 
-// The order at the front of some octets: PID, count, ack, type, subtype.
+// The order at the front of some octets: PID, count, ack, checksum flag, type, subtype.
 fn order_in(given: &[u8]) -> Order
     ensures { λ r. ⌜ r ≡ orderIn (now (given .entry)) ⌝ }
 {
@@ -102,8 +107,9 @@ fn order_in(given: &[u8]) -> Order
         pid: octets::numbers::one(given, 0),
         count: octets::numbers::word16_at(given, 1),
         ack: octets::numbers::one(given, 3),
-        kind: octets::numbers::one(given, 4),
-        subtype: octets::numbers::one(given, 5),
+        method: tc::method_of(octets::numbers::octet_at(given, FLAG_AT)),
+        kind: octets::numbers::one(given, 5),
+        subtype: octets::numbers::one(given, 6),
     }
 }
 

@@ -1,27 +1,53 @@
--- Laws of the layout: error control, how long a packet is, and that it may be laid in two steps.
+-- Laws of the layout: methods and error control, how long a packet is, and that it may be laid in two steps.
 -- Assumes nothing.
 use mathlib.Core.Path.{_≡_, refl, ap, ap₂, _∙_, sym}
 use mathlib.Core.List.{List}
 use Prim.Native.Nat.{ℕ, _+_, _≤_, _<_}
 use native.Mathlib.Nat.{add-comm, zero-add}
 use native.Mathlib.Omega.{arith}
+use lib.Dec.{eqb}
 use lib.ListN.{length, take, length-append}
+use borrow.Author.Tests.{eqb-true, eqb-false}
+use Rattle.laws.proofs.Tests.{by-test}
 use Rattle.octets.specs.Numbers.{octets16}
 use Rattle.octets.specs.Copy.{laid}
 use Rattle.octets.proofs.Laid.{laid-append, laid-front}
-use Rattle.crc.specs.Register.{crcOf}
 use Rattle.crc.proofs.Laws.{crc-lt}
+use Rattle.iso.proofs.Closing.{iso-lt}
 use Rattle.tc.specs.declared.Fields.{Fields}
-use Rattle.tc.specs.Layout.{around, headSize, errorControl, headOf, bodyOf, packetOf}
+use Rattle.tc.specs.declared.Method.{Method}
+use Rattle.tc.specs.declared.Method.the-variants.{Iso, Crc}
+use Rattle.tc.specs.Layout.{around, headSize, flagOf, methodOf, valueBy, errorControl, headOf, bodyOf, packetOf}
 
--- Error control is the CRC, whatever the fields are, and has 16 bits.
-pub control-crc : (f : Fields) (octets : List ℕ) → errorControl f octets ≡ crcOf octets
+-- A flag has one bit.
+pub flag-lt : (method : Method) → flagOf method < 2
+flag-lt Iso = omega arith
+flag-lt Crc = omega arith
+
+-- The flag of a method selects it, and a flag of one bit is that of the method that it selects.
+pub flag-selects : (method : Method) → methodOf (flagOf method) ≡ method
+flag-selects Iso = refl
+flag-selects Crc = refl
+
+pub selected-flag : (flag : ℕ) → flag < 2 → flagOf (methodOf flag) ≡ flag
+selected-flag flag h =
+    by-test (eqb flag 1) (λ t. rw t (sym (eqb-true flag 1 t))) (λ f. rw f (omega (arith, eqb-false flag 1 f)))
+
+-- Error control is the value of the method that the flag selects; where the flag is a method's, of that one.
+pub control-method : (f : Fields) (octets : List ℕ) → errorControl f octets ≡ valueBy (methodOf (f .checksum)) octets
 unfolding errorControl
-control-crc f octets = refl
+control-method f octets = refl
+
+pub control-by : (f : Fields) (method : Method) (octets : List ℕ) → f .checksum ≡ flagOf method → errorControl f octets ≡ valueBy method octets
+control-by f method octets e = control-method f octets ∙ ap (λ (flag : ℕ). valueBy (methodOf flag) octets) e ∙ ap (λ (m : Method). valueBy m octets) (flag-selects method)
+
+-- Error control has 16 bits, by either method.
+value-lt : (method : Method) (octets : List ℕ) → valueBy method octets < 65536
+value-lt Iso octets = iso-lt octets
+value-lt Crc octets = crc-lt octets
 
 pub control-lt : (f : Fields) (octets : List ℕ) → errorControl f octets < 65536
-unfolding errorControl
-control-lt f octets = crc-lt octets
+control-lt f octets = rw (control-method f octets) (value-lt (methodOf (f .checksum)) octets)
 
 pub body-length : (f : Fields) (application : List ℕ) → length (bodyOf f application) ≡ length application + headSize
 unfolding bodyOf headOf

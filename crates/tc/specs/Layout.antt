@@ -1,13 +1,18 @@
 -- Document 01, "TC packet": the layout, once. The reader takes these places; the writer lays these octets.
+use mathlib.Core.Bool.{cond}
 use mathlib.Core.List.{List, [], _∷_, _++_}
 use Prim.Native.Nat.{ℕ, _+_, _-_}
+use lib.Dec.{eqb}
 use lib.ListN.{length, take}
 use Rattle.octets.specs.Numbers.{octet, word16, octets16}
 use Rattle.fields.specs.Fields.{packetId, idOf, sequence, controlOf, header, headerOf}
 use Rattle.octets.specs.declared.copy.Span.{Span}
 use Rattle.octets.specs.Copy.{placed}
 use Rattle.crc.specs.Register.{crcOf}
+use Rattle.iso.specs.Checksum.{isoOf}
 use Rattle.tc.specs.declared.Fields.{Fields}
+use Rattle.tc.specs.declared.Method.{Method}
+use Rattle.tc.specs.declared.Method.the-variants.{Iso, Crc}
 
 -- The category of every TC.
 abbrev pub category : ℕ
@@ -31,9 +36,23 @@ packetMost = 248
 abbrev pub countMost : ℕ
 countMost = 16383
 
--- The error control of a packet with these fields, over some octets: the CRC of document 01, whatever the checksum flag says.
+-- The checksum flag of each method of error control.
+abbrev pub flagOf : Method → ℕ
+flagOf Iso = 0
+flagOf Crc = 1
+
+-- The method that a checksum flag, which has one bit, selects.
+abbrev pub methodOf : ℕ → Method
+methodOf flag = cond (eqb flag 1) Crc Iso
+
+-- The value of each method over some octets: the ISO checksum, and the CRC.
+abbrev pub valueBy : Method → List ℕ → ℕ
+valueBy Iso octets = isoOf octets
+valueBy Crc octets = crcOf octets
+
+-- The error control of a packet with these fields, over some octets: by the method that the checksum flag selects.
 unfoldable pub errorControl : Fields → List ℕ → ℕ
-errorControl f octets = crcOf octets
+errorControl f octets = valueBy (methodOf (f .checksum)) octets
 
 -- The octets that a packet's error control is over: every earlier one.
 abbrev pub covered : List ℕ → List ℕ

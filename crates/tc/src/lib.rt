@@ -1,6 +1,6 @@
 // Telecommand packets of document 01: the layout that reader and writer share.
 ghost use mathlib.Core.Path.{_≡_};
-ghost use Rattle.crc.specs.Register.{crcOf};
+ghost use Rattle.tc.specs.Layout.{flagOf, methodOf, valueBy};
 
 pub mod places;
 
@@ -11,6 +11,14 @@ pub const CATEGORY: u16 = 12;
 pub const HEAD: usize = 10;
 
 pub const AROUND: usize = 12;
+
+// The methods of error control.
+pub enum Method {
+    // Checksum flag 0: the ISO checksum.
+    Iso,
+    // Checksum flag 1: the CRC.
+    Crc,
+}
 
 // What a TC packet carries besides its application data.
 pub struct Fields {
@@ -23,9 +31,29 @@ pub struct Fields {
     pub pad: u8,
 }
 
-// Error control over some octets, for the reader and the writer alike.
-pub fn error_control(octets: &[u8]) -> u16
-    ensures { λ r. ⌜ r ≡ crcOf (now (octets .entry)) ⌝ }
+// The checksum flag of a method.
+pub fn flag_of(method: Method) -> u16
+    ensures { λ r. ⌜ r ≡ flagOf method ⌝ }
 {
-    crc::crc(crc::ALL_ONES, octets)
+    match method {
+        Method::Iso => 0,
+        Method::Crc => 1,
+    }
+}
+
+// The method that a checksum flag selects.
+pub fn method_of(flag: u16) -> Method
+    ensures { λ r. ⌜ r ≡ methodOf flag ⌝ }
+{
+    if flag == 1 { Method::Crc } else { Method::Iso }
+}
+
+// Error control over some octets by a method, for the reader and the writer alike.
+pub fn error_control(method: Method, octets: &[u8]) -> u16
+    ensures { λ r. ⌜ r ≡ valueBy method (now (octets .entry)) ⌝ }
+{
+    match method {
+        Method::Iso => iso::checksum(octets),
+        Method::Crc => crc::crc(crc::ALL_ONES, octets),
+    }
 }

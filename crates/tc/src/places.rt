@@ -26,11 +26,15 @@ pub fn control_at(octets: usize) -> usize
     if octets < 2 { 0 } else { octets - 2 }
 }
 
-// The right error control of a packet: over every octet but the last two.
+// The right error control of a packet: by the method that its checksum flag selects, over every octet but the last two.
 pub fn control(p: &[u8]) -> u16
     ensures { λ r. ⌜ r ≡ rightControl (now (p .entry)) ⌝ }
 {
-    crate::error_control(octets::copy::part(p, 0, control_at(p.len())))
+    let head = header_of(p);
+    crate::error_control(
+        crate::method_of(head.checksum),
+        octets::copy::part(p, 0, control_at(p.len())),
+    )
 }
 
 // The fields of the first octet of the data field header; octets past the end count as 0, here and below.

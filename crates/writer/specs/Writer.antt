@@ -12,7 +12,7 @@ use Rattle.tc.specs.declared.Fields.{Fields}
 use Rattle.writer.specs.declared.Order.{Order}
 use Rattle.writer.specs.declared.Written.{Written}
 use Rattle.writer.specs.declared.Written.the-variants.{Packet, BadField, BadData, NoRoom}
-use Rattle.tc.specs.Layout.{category, around, dataMost, countMost, packetOf}
+use Rattle.tc.specs.Layout.{category, flagOf, around, dataMost, countMost, packetOf}
 
 -- The number of each answer of the writer: 50, 51, 52; 0 stands for a packet written.
 abbrev pub writtenNumber : Written → ℕ
@@ -28,12 +28,12 @@ writtenLength BadField = 0
 writtenLength BadData = 0
 writtenLength NoRoom = 0
 
--- The writer sets category 12, checksum flag 1 and pad 0.
+-- The writer sets category 12, the checksum flag of the method asked for, and pad 0.
 abbrev pub fieldsFor : Order → Fields
 fieldsFor o = record {
   apid = apidOf (o .pid) category;
   count = o .count;
-  checksum = 1;
+  checksum = flagOf (o .method);
   ack = o .ack;
   kind = o .kind;
   subtype = o .subtype;

@@ -1,4 +1,4 @@
-// The writer: a packet of category 12, checksum flag 1 and pad 0, laid at the front of a buffer.
+// The writer: a packet of category 12 and pad 0, with error control by the method asked for, laid at the front of a buffer.
 use fields::Header;
 use fields::PacketId;
 use fields::Sequence;
@@ -6,6 +6,7 @@ use octets::numbers::VALUES;
 use tc::AROUND;
 use tc::CATEGORY;
 use tc::HEAD;
+use tc::Method;
 ghost use mathlib.Core.Path.{_≡_};
 ghost use Prim.Native.Nat.{_+_, _≤_};
 ghost use lib.ListN.{length, take};
@@ -31,6 +32,7 @@ pub struct Order {
     pub pid: u8,
     pub count: u16,
     pub ack: u8,
+    pub method: Method,
     pub kind: u8,
     pub subtype: u8,
 }
@@ -133,9 +135,11 @@ fn head(order: Order, octets: u16) -> [u8; 10]
         count: order.count,
     });
     let length = octets + (AROUND as u16) - 7;
+    let method = order.method;
+    let flag = tc::flag_of(method);
     let first = fields::join_header(Header {
         version: 0,
-        checksum: 1,
+        checksum: flag,
         ack: order.ack as u16,
     });
     [
@@ -158,7 +162,8 @@ fn lay(order: Order, application: &[u8], buffer: &mut [u8])
     ensures { λ _. ⌜ now (buffer .exit) ≡ laid (now (buffer .entry)) 0 (packetOf (fieldsFor order) (now (application .entry))) ⌝ }
 {
     let end = lay_body(order, application, buffer);
-    let control = octets::numbers::octets_of16(tc::error_control(&buffer[..end]));
+    let method = order.method;
+    let control = octets::numbers::octets_of16(tc::error_control(method, &buffer[..end]));
     octets::copy::put(buffer, end, &control);
 }
 

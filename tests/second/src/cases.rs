@@ -7,7 +7,7 @@ use crate::hex;
 use crate::hexline;
 use crate::lines;
 use crate::map::{Area, Flags, Profile, Rights, AREA_PLACES};
-use crate::tc::{self, Order, Telecommand};
+use crate::tc::{self, Method, Order, Telecommand};
 use crate::telemetry;
 use crate::terminal;
 use crate::tm::Counts;
@@ -60,6 +60,7 @@ pub struct WriteFields {
     pub pid: u8,
     pub count: u16,
     pub ack: u8,
+    pub method: Method,
     pub service: u8,
     pub subtype: u8,
     pub room: u16,
@@ -160,12 +161,13 @@ fn buffer(length: u16, octet: u8) -> Option<Command> {
 }
 
 fn write_fields(octets: &[u8]) -> Option<WriteFields> {
-    let (&[pid, count_upper, count_lower, ack, service, subtype, room_upper, room_lower], data) =
-        octets.split_first_chunk::<8>()?;
+    let (&[pid, count_upper, count_lower, ack, flag, service, subtype, room_upper, room_lower], data) =
+        octets.split_first_chunk::<9>()?;
     Some(WriteFields {
         pid,
         count: u16::from_be_bytes([count_upper, count_lower]),
         ack,
+        method: Method::of_flag(flag)?,
         service,
         subtype,
         room: u16::from_be_bytes([room_upper, room_lower]),
@@ -264,6 +266,7 @@ fn write_packet(fields: &WriteFields, text: &mut Vec<u8>) {
         pid: fields.pid,
         count: fields.count,
         ack: fields.ack,
+        method: fields.method,
         service: fields.service,
         subtype: fields.subtype,
         data: &fields.data,

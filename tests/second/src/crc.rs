@@ -1,4 +1,4 @@
-//! The error control of TC packets and the value of check reports: the 16-bit CRC,
+//! The error control of TC packets whose checksum flag is 1, and the value of every check report: the 16-bit CRC,
 //! polynomial x^16 + x^12 + x^5 + 1, start all ones, most significant bit first. It takes its
 //! start and hands back a value to go on from: parts taken in turn give the CRC of the whole.
 

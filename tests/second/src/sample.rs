@@ -2,9 +2,12 @@
 //! the terminal can answer. A kind aims at its answer; now and then it gets another.
 
 use crate::blocks::MemoryRequest;
-use crate::crc::{crc, START};
 use crate::map::{Area, Profile};
 use crate::random::Random;
+use crate::tc::Method;
+
+/// The checksum flag in its octet.
+const CHECKSUM_FLAG: u8 = 0x10;
 
 /// A telecommand with every field free; length field and error control are right.
 #[derive(Clone)]
@@ -64,7 +67,7 @@ pub fn longest_dump(random: &mut Random, profile: &Profile) -> Vec<u8> {
         .collect();
     let data = memory_data(random, MemoryRequest::Dump, area.memory_id, &spans);
     let mut fields = telecommand(random, profile, 6, 5, data);
-    fields.version_and_ack = 0x19;
+    fields.version_and_ack = fields.version_and_ack & CHECKSUM_FLAG | 0x09;
     fields.octets()
 }
 
@@ -85,6 +88,27 @@ pub fn loaded_and_checked(random: &mut Random, profile: &Profile, words: u16) ->
         .map(|(request, data)| telecommand(random, profile, 6, request.subtype(), data).octets())
 }
 
+/// A short packet with that method, its error control right: one block of at most three words, or the connection test
+/// where no request is given. It is served where the profile has the flag and an area with the right.
+pub fn short(random: &mut Random, profile: &Profile, request: Option<MemoryRequest>, method: Method) -> Vec<u8> {
+    let mut fields = match request {
+        None => telecommand(random, profile, 17, 1, Vec::new()),
+        Some(request) => {
+            let areas = profile.used_areas().iter().filter(|area| right_given(area, request));
+            let able: Vec<Area> = areas.copied().collect();
+            let area = if able.is_empty() { Area::default() } else { random.pick(&able) };
+            let length = random.between(1, u64::from(area.length.clamp(1, 3)));
+            let latest = u64::from(area.length).saturating_sub(length);
+            let start = area.start.wrapping_add(random.between(0, latest) as u32);
+            let data = memory_data(random, request, area.memory_id, &[(start, length as u16)]);
+            telecommand(random, profile, 6, request.subtype(), data)
+        }
+    };
+    let flag = if method == Method::Crc { CHECKSUM_FLAG } else { 0 };
+    fields.version_and_ack = fields.version_and_ack & !CHECKSUM_FLAG | flag;
+    fields.octets()
+}
+
 impl Fields {
     fn octets(&self) -> Vec<u8> {
         let total = self.data.len() + 12;
@@ -100,16 +124,18 @@ impl Fields {
     }
 }
 
-/// Makes the error control right.
+/// Makes the error control right by the method that the flag selects.
 fn seal(octets: &mut [u8]) {
     if let Some((body, error_control)) = octets.split_last_chunk_mut::<2>() {
-        *error_control = crc(START, body).to_be_bytes();
+        let flagged = body.get(6).is_some_and(|octet| octet & CHECKSUM_FLAG != 0);
+        let method = if flagged { Method::Crc } else { Method::Iso };
+        *error_control = method.value(body).to_be_bytes();
     }
 }
 
 fn telecommand(random: &mut Random, profile: &Profile, service: u8, subtype: u8, data: Vec<u8>) -> Fields {
     let ack = random.below(16) as u8;
-    let checksum_flag = if random.once_in(8) { 0 } else { 0x10 };
+    let checksum_flag = random.pick(&[0, CHECKSUM_FLAG]);
     Fields {
         packet_id: 0x1800 | (u16::from(profile.pid & 0x7F) * 16 + 12),
         sequence: 0xC000 | random.below(0x4000) as u16,

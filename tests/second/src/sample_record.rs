@@ -5,7 +5,7 @@ use crate::judge::TIME;
 use crate::map::Profile;
 use crate::random::Random;
 use crate::sample_line;
-use crate::tc::{self, Order};
+use crate::tc::{self, Method, Order};
 use crate::terminal;
 use crate::tm::Counts;
 use crate::unit::Unit;
@@ -66,11 +66,12 @@ pub fn text(random: &mut Random, record: &[Entry]) -> Vec<u8> {
     text
 }
 
-/// A packet with any count; the data is at most what a packet holds.
+/// A packet with any count and either method; the data is at most what a packet holds.
 pub fn packet(random: &mut Random, pid: u8, ack: u8, service: u8, subtype: u8, data: &[u8]) -> Vec<u8> {
     let count = random.between(0, tc::LARGEST_COUNT.into()) as u16;
+    let method = random.pick(&[Method::Iso, Method::Crc]);
     let mut packet = vec![0; tc::LONGEST];
-    let length = tc::write(&Order { pid, count, ack, service, subtype, data }, &mut packet);
+    let length = tc::write(&Order { pid, count, ack, method, service, subtype, data }, &mut packet);
     packet.truncate(length.unwrap_or(0));
     packet
 }

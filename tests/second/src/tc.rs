@@ -1,7 +1,8 @@
 //! Telecommand packets: the reader, which makes checks 42, 1, 2 and 16 and no others,
 //! and the writer, which refuses with 50, 51 and 52.
 
-use crate::crc::{crc, START};
+use crate::crc::{self, crc};
+use crate::iso;
 use crate::refusal::{self, Refusal};
 
 pub const SHORTEST: usize = 12;
@@ -20,9 +21,46 @@ const PACKET_ID: u16 = 0x1800;
 const APID_MASK: u16 = 0x07FF;
 const SEQUENCE_FLAGS: u16 = 0xC000;
 const COUNT_MASK: u16 = 0x3FFF;
-const CHECKSUM_FLAG: u8 = 0x10;
+/// Where the checksum flag stands in its octet, above the ack.
+const CHECKSUM_FLAG_PLACE: u8 = 4;
 const ERROR_CONTROL_OCTETS: usize = 2;
 const HEADER_OCTETS: usize = 10;
+
+/// How the error control is made of the octets before it; the checksum flag says which.
+#[derive(Clone, Copy, Debug, PartialEq, Eq)]
+pub enum Method {
+    /// Flag 0.
+    Iso,
+    /// Flag 1.
+    Crc,
+}
+
+impl Method {
+    /// The method of a checksum flag, which is 0 or 1.
+    pub fn of_flag(flag: u8) -> Option<Method> {
+        match flag {
+            0 => Some(Method::Iso),
+            1 => Some(Method::Crc),
+            _ => None,
+        }
+    }
+
+    /// The checksum flag of the method.
+    pub fn flag(self) -> u8 {
+        match self {
+            Method::Iso => 0,
+            Method::Crc => 1,
+        }
+    }
+
+    /// The right error control of the octets.
+    pub fn value(self, octets: &[u8]) -> u16 {
+        match self {
+            Method::Iso => iso::checksum(octets),
+            Method::Crc => crc(crc::START, octets),
+        }
+    }
+}
 
 /// What the reader hands back; the data is a part of the packet itself.
 #[derive(Clone, Copy, Debug, Default, PartialEq, Eq)]
@@ -37,12 +75,13 @@ pub struct Telecommand<'a> {
     pub data: &'a [u8],
 }
 
-/// What the writer is given; category, checksum flag and pad are its own.
+/// What the writer is given; category and pad are its own.
 #[derive(Clone, Copy, Debug, PartialEq, Eq)]
 pub struct Order<'a> {
     pub pid: u8,
     pub count: u16,
     pub ack: u8,
+    pub method: Method,
     pub service: u8,
     pub subtype: u8,
     pub data: &'a [u8],
@@ -66,7 +105,9 @@ pub fn read(packet: &[u8]) -> Result<Telecommand<'_>, Refusal> {
     let (body, error_control) = packet.split_last_chunk::<ERROR_CONTROL_OCTETS>().ok_or(wrong_count)?;
     let (header, data) = body.split_first_chunk::<HEADER_OCTETS>().ok_or(wrong_count)?;
 
-    let right = crc(START, body);
+    // The flag selects the method whatever check 16 will say of the header.
+    let method = if checksum_flag(header) == 0 { Method::Iso } else { Method::Crc };
+    let right = method.value(body);
     if u16::from_be_bytes(*error_control) != right {
         return Err(Refusal::new(refusal::ERROR_CONTROL, right));
     }
@@ -79,7 +120,7 @@ pub fn read(packet: &[u8]) -> Result<Telecommand<'_>, Refusal> {
     Ok(Telecommand {
         apid: packet_id & APID_MASK,
         count: sequence & COUNT_MASK,
-        checksum_flag: (header[6] >> 4) & 1,
+        checksum_flag: checksum_flag(header),
         ack: header[6] & 0x0F,
         service: header[7],
         subtype: header[8],
@@ -108,18 +149,23 @@ pub fn write(order: &Order, buffer: &mut [u8]) -> Result<usize, u8> {
     body[0..2].copy_from_slice(&packet_id.to_be_bytes());
     body[2..4].copy_from_slice(&sequence.to_be_bytes());
     body[4..6].copy_from_slice(&length_field.to_be_bytes());
-    body[6] = CHECKSUM_FLAG | order.ack;
+    body[6] = order.method.flag() << CHECKSUM_FLAG_PLACE | order.ack;
     body[7] = order.service;
     body[8] = order.subtype;
     body[9] = 0;
     body[HEADER_OCTETS..].copy_from_slice(order.data);
-    error_control.copy_from_slice(&crc(START, body).to_be_bytes());
+    error_control.copy_from_slice(&order.method.value(body).to_be_bytes());
     Ok(length)
 }
 
 /// PID times 16 plus category.
 pub fn apid(pid: u8, category: u16) -> u16 {
     u16::from(pid) * 16 + category
+}
+
+/// The bit of value 16 of octet 6.
+fn checksum_flag(header: &[u8; HEADER_OCTETS]) -> u8 {
+    (header[6] >> CHECKSUM_FLAG_PLACE) & 1
 }
 
 /// 1 to 5 for version, type bit, header flag, sequence flags and PUS version: the first that is wrong.

@@ -8,6 +8,8 @@ use std::path::Path;
 use std::process::Command;
 
 use second::cases;
+use second::crc;
+use second::iso;
 
 const GOOD: &str = "X 185CC0000005191101000167\n";
 /// The profile that stands at the start.
@@ -19,6 +21,11 @@ fn run(input: impl AsRef<[u8]>) -> String {
 
 fn x(packet: &[u8]) -> String {
     format!("X {}\n", packet.iter().map(|octet| format!("{octet:02X}")).collect::<String>())
+}
+
+/// The R line of a packet, without its newline.
+fn r(packet: &[u8]) -> String {
+    format!("R {}", x(packet).trim_start_matches("X ").trim_end())
 }
 
 /// A P or V line of a profile whose text has spaces in it.
@@ -410,8 +417,155 @@ fn r_reads() {
     assert_eq!(run("R 185CC0000005191101000167\n"), "0000 0000 005C 0000 01 09 11 01 00 \n");
     assert_eq!(run("R 185CC0000005191101000168\n"), "0102 0167 0000 0000 00 00 00 00 00 \n");
     assert_eq!(run("R \n"), "012A 0000 0000 0000 00 00 00 00 00 \n");
-    let packet = x(&common::sealed("1FF3 D234 0008 07 AB CD EF 112233")).replacen('X', "R", 1);
-    assert_eq!(run(packet), "0000 0000 07F3 1234 00 07 AB CD EF 112233\n");
+    assert_eq!(run("R 1FF3D234000807ABCDEF1122330304\n"), "0000 0000 07F3 1234 00 07 AB CD EF 112233\n");
+    assert_eq!(run("R 1FF3D234000807ABCDEF112233990E\n"), "0102 0304 0000 0000 00 00 00 00 00 \n");
+    let packet = x(&common::sealed("1FF3 D234 0008 17 AB CD EF 112233")).replacen('X', "R", 1);
+    assert_eq!(run(packet), "0000 0000 07F3 1234 01 07 AB CD EF 112233\n");
+}
+
+/// Runs lines that print one line each, all at once, and holds each answer to what is expected there.
+fn answers(rows: &[(String, String)]) {
+    let lines: String = rows.iter().map(|(line, _)| format!("{line}\n")).collect();
+    let printed = run(lines);
+    for (answer, (line, expected)) in printed.lines().zip(rows) {
+        assert_eq!(answer, expected, "{line}");
+    }
+    assert_eq!(printed.lines().count(), rows.len());
+}
+
+/// What R prints for an accepted connection test of PID 5 with ack 9.
+fn tested(count: &str, flag: &str, pad: &str) -> String {
+    format!("0000 0000 005C {count} {flag} 09 11 01 {pad} ")
+}
+
+/// What R prints for a packet that is refused.
+fn not_read(number: u8, detail: &str) -> String {
+    format!("01{number:02X} {detail} 0000 0000 00 00 00 00 00 ")
+}
+
+#[test]
+fn r_goes_by_the_checksum_flag() {
+    let rows = [
+        ("185CC00000050911010002A8", tested("0000", "00", "00")),
+        ("185CC0000005191101000167", tested("0000", "01", "00")),
+        ("185CC0000005091101001AC0", not_read(2, "02A8")),
+        ("185CC000000519110100B1E8", not_read(2, "0167")),
+        ("185CC00000050911010002A9", not_read(2, "02A8")),
+        ("185CC00000050911010003A8", not_read(2, "02A8")),
+        ("185CC000000509110100A802", not_read(2, "02A8")),
+        ("185CC000000509110100B1E8", not_read(2, "02A8")),
+        ("185CC0000005191101001AC0", not_read(2, "0167")),
+        ("185CC0000005091101000167", not_read(2, "02A8")),
+        ("185CC00000051911010002A8", not_read(2, "0167")),
+        // FF is sent for 0: in the first octet, in the second, in both.
+        ("185CC040000509110100FF6A", tested("0040", "00", "00")),
+        ("185CC040000509110100006A", not_read(2, "FF6A")),
+        ("185CC0E7000509110100C2FF", tested("00E7", "00", "00")),
+        ("185CC0E7000509110100C200", not_read(2, "C2FF")),
+        ("185CC19B00050911010EFFFF", tested("019B", "00", "0E")),
+        ("185CC19B00050911010E00FF", not_read(2, "FFFF")),
+        ("185CC19B00050911010EFF00", not_read(2, "FFFF")),
+        ("185CC19B00050911010E0000", not_read(2, "FFFF")),
+        // The CRC has 00 where it is 0.
+        ("185CC0BA000519110100005D", tested("00BA", "01", "00")),
+        ("185CC0BA000519110100FF5D", not_read(2, "005D")),
+        ("185CC40D000519110100E400", tested("040D", "01", "00")),
+        ("185CC40D000519110100E4FF", not_read(2, "E400")),
+        ("185CC0870005191101930000", tested("0087", "01", "93")),
+        ("185CC087000519110193FFFF", not_read(2, "0000")),
+        // 2 comes before 16, by the method of the flag.
+        ("385CC000000509110100A0E9", not_read(16, "0001")),
+        ("385CC00000050911010023CD", not_read(2, "A0E9")),
+        ("085CC000000509110100B208", not_read(16, "0002")),
+        ("085CC0000005091101008E56", not_read(2, "B208")),
+        ("105CC0000005091101005A58", not_read(16, "0003")),
+        ("105CC000000509110100508B", not_read(2, "5A58")),
+        ("185C800000050911010044A6", not_read(16, "0004")),
+        ("185C8000000509110100EC10", not_read(2, "44A6")),
+        ("185CC0000005291101006129", not_read(16, "0005")),
+        ("185CC0000005291101002D8E", not_read(2, "6129")),
+        ("185CC0000005391101003629", not_read(16, "0005")),
+        ("185CC0000005391101001169", not_read(2, "3629")),
+        // 1 comes before 2.
+        ("185CC000000609110100A5A5", not_read(1, "000C")),
+        ("185CC000000509110100", not_read(1, "000A")),
+    ];
+    answers(&rows.clone().map(|(packet, expected)| (format!("R {packet}"), expected)));
+    answers(&rows.map(|(packet, expected)| (format!("R {}", packet.to_lowercase()), expected)));
+}
+
+/// The published vectors as application data, each behind a header over which both sums are 0 modulo 255: 510 and 3825.
+/// So the packet's error control is the vector's own.
+#[test]
+fn r_of_the_published_vectors() {
+    for (header, fields, data, value) in [
+        ("185CC59500070911010E", "0595 00 09 11 01 0E", "0000", "FFFF"),
+        ("185CC19900080911010D", "0199 00 09 11 01 0D", "000000", "FFFF"),
+        ("185CC39600090911010D", "0396 00 09 11 01 0D", "ABCDEF01", "9CF8"),
+        ("185CC197000B0911010C", "0197 00 09 11 01 0C", "1456F89A0001", "24DC"),
+    ] {
+        let wrong = if value == "FFFF" { "0000" } else { "FFFF" };
+        answers(&[
+            (format!("R {header}{data}{value}"), format!("0000 0000 005C {fields} {data}")),
+            (format!("R {header}{data}{wrong}"), not_read(2, value)),
+        ]);
+    }
+}
+
+/// Of all values there is one that is right.
+#[test]
+fn r_takes_one_value_alone() {
+    for (body, right, accepted) in [
+        ("185CC000000509110100", 0x02A8, tested("0000", "00", "00")),
+        ("185CC040000509110100", 0xFF6A, tested("0040", "00", "00")),
+        ("185CC19B00050911010E", 0xFFFF, tested("019B", "00", "0E")),
+        ("185CC000000519110100", 0x0167, tested("0000", "01", "00")),
+    ] {
+        let refused = not_read(2, &format!("{right:04X}"));
+        let expected = |value| if value == right { accepted.clone() } else { refused.clone() };
+        let rows: Vec<_> = (0..=0xFFFF_u16).map(|value| (format!("R {body}{value:04X}"), expected(value))).collect();
+        answers(&rows);
+    }
+}
+
+/// The flag alone selects, whatever the other bits of its octet are. The values are got by weights and bit by bit.
+#[test]
+fn r_of_every_octet_with_the_flag() {
+    let mut rows = Vec::new();
+    for octet in 0..=255_u8 {
+        let text = format!("185CC0000005{octet:02X}110100");
+        let body = common::hex(&text);
+        let (by_iso, by_crc) = (iso::weighted(&body), crc::bit_by_bit(crc::START, &body));
+        let flag = octet >> 4 & 1;
+        let (right, wrong) = if flag == 0 { (by_iso, by_crc) } else { (by_crc, by_iso) };
+        let read = match octet {
+            0..=31 => format!("0000 0000 005C 0000 {flag:02X} {:02X} 11 01 00 ", octet & 15),
+            _ => not_read(16, "0005"),
+        };
+        rows.push((format!("R {text}{right:04X}"), read));
+        rows.push((format!("R {text}{wrong:04X}"), not_read(2, &format!("{right:04X}"))));
+    }
+    answers(&rows);
+}
+
+/// The ISO checksum at every length that a packet can have. The values are got by weights; both sums are 0.
+#[test]
+fn r_of_every_length_with_flag_0() {
+    let mut rows = Vec::new();
+    for filler in ["00", "FF", "01", "80", "FE", "A7"] {
+        for length in 0..=236 {
+            let data = filler.repeat(length);
+            let mut packet = common::sealed_by_iso(&format!("185CC000{:04X}00060200{data}", length + 5));
+            let plain: u32 = packet.iter().map(|octet| u32::from(*octet)).sum();
+            let by_place: u32 = (1..).zip(packet.iter().rev()).map(|(place, octet)| place * u32::from(*octet)).sum();
+            assert_eq!((plain % 255, by_place % 255), (0, 0), "{length} of {filler}");
+            rows.push((r(&packet), format!("0000 0000 005C 0000 00 00 06 02 00 {data}")));
+            let value: String = packet[length + 10..].iter().map(|octet| format!("{octet:02X}")).collect();
+            packet[length + 10] ^= 1;
+            rows.push((r(&packet), not_read(2, &value)));
+        }
+    }
+    answers(&rows);
 }
 
 #[test]
@@ -440,36 +594,197 @@ fn r_changes_nothing() {
 
 #[test]
 fn w_writes() {
-    assert_eq!(run("W 050000091101000E\n"), "0000 000C 185CC0000005191101000167EEEE\n");
-    assert_eq!(run("W 050000091101000C\n"), "0000 000C 185CC0000005191101000167\n");
-    assert_eq!(run("W 050000091101000B\n"), "0134 0000 EEEEEEEEEEEEEEEEEEEEEE\n");
-    assert_eq!(run("W 0500000911010000\n"), "0134 0000 \n");
-    assert_eq!(run("W 8000000911010001\n"), "0132 0000 EE\n");
-    assert_eq!(run("W 0540000911010001\n"), "0132 0000 EE\n");
-    assert_eq!(run("W 0500001011010001\n"), "0132 0000 EE\n");
-    assert_eq!(run(format!("W 0500000911010001{}\n", "00".repeat(237))), "0133 0000 EE\n");
-    assert_eq!(run(format!("W 0500000911010000{}\n", "00".repeat(236))), "0134 0000 \n");
-    assert_eq!(run("W 05000009110100\n"), "0200\n");
+    assert_eq!(run("W 05000009011101000E\n"), "0000 000C 185CC0000005191101000167EEEE\n");
+    assert_eq!(run("W 05000009011101000C\n"), "0000 000C 185CC0000005191101000167\n");
+    assert_eq!(run("W 05000009001101000E\n"), "0000 000C 185CC00000050911010002A8EEEE\n");
+    assert_eq!(run("W 05000009001101000C\n"), "0000 000C 185CC00000050911010002A8\n");
+    for flag in ["00", "01"] {
+        assert_eq!(run(format!("W 05000009{flag}1101000B\n")), "0134 0000 EEEEEEEEEEEEEEEEEEEEEE\n");
+        assert_eq!(run(format!("W 05000009{flag}11010000\n")), "0134 0000 \n");
+        assert_eq!(run(format!("W 80000009{flag}11010001\n")), "0132 0000 EE\n");
+        assert_eq!(run(format!("W 05400009{flag}11010001\n")), "0132 0000 EE\n");
+        assert_eq!(run(format!("W 05000010{flag}11010001\n")), "0132 0000 EE\n");
+        assert_eq!(run(format!("W 05000009{flag}11010001{}\n", "00".repeat(237))), "0133 0000 EE\n");
+        assert_eq!(run(format!("W 05000009{flag}11010000{}\n", "00".repeat(236))), "0134 0000 \n");
+    }
 }
 
 #[test]
 fn w_with_no_room_with_much_and_with_much_data() {
-    // Without room the line ends with the space, whatever is refused.
-    assert_eq!(run("W 8000000911010000\n"), "0132 0000 \n");
-    assert_eq!(run(format!("W 0500000911010000{}\n", "00".repeat(237))), "0133 0000 \n");
-    assert_eq!(run(format!("W 8000000911010000{}\n", "00".repeat(237))), "0132 0000 \n");
-    let most = run("W 050000091101FFFF\n");
-    assert_eq!(most, format!("0000 000C 185CC0000005191101000167{}\n", "EE".repeat(65_535 - 12)));
-    assert_eq!(run("W 800000091101FFFF\n"), format!("0132 0000 {}\n", "EE".repeat(65_535)));
-    // Any data that the line has room for.
-    assert_eq!(run(format!("W 0500000911010001{}\n", "00".repeat(69_992))), "0133 0000 EE\n");
-    assert_eq!(run(format!("W 0500000911010001{}\n", "00".repeat(69_993))), "0200\n");
-    // The longest packet in just its room.
-    let data = "11".repeat(236);
-    let packet = common::sealed(&format!("185C C000 00F1 10 06 02 00 {data}"));
-    let packet: String = packet.iter().map(|octet| format!("{octet:02X}")).collect();
-    assert_eq!(run(format!("W 05000000060200F8{data}\n")), format!("0000 00F8 {packet}\n"));
-    assert_eq!(run(format!("W 05000000060200F7{data}\n")), format!("0134 0000 {}\n", "EE".repeat(247)));
+    for flag in ["00", "01"] {
+        // Without room the line ends with the space, whatever is refused.
+        assert_eq!(run(format!("W 80000009{flag}11010000\n")), "0132 0000 \n");
+        assert_eq!(run(format!("W 05000009{flag}11010000{}\n", "00".repeat(237))), "0133 0000 \n");
+        assert_eq!(run(format!("W 80000009{flag}11010000{}\n", "00".repeat(237))), "0132 0000 \n");
+        assert_eq!(run(format!("W 80000009{flag}1101FFFF\n")), format!("0132 0000 {}\n", "EE".repeat(65_535)));
+        // Any data that the line has room for.
+        assert_eq!(run(format!("W 05000009{flag}11010001{}\n", "00".repeat(69_991))), "0133 0000 EE\n");
+        assert_eq!(run(format!("W 05000009{flag}11010001{}\n", "00".repeat(69_992))), "0200\n");
+    }
+    let most = "EE".repeat(65_535 - 12);
+    assert_eq!(run("W 05000009011101FFFF\n"), format!("0000 000C 185CC0000005191101000167{most}\n"));
+    assert_eq!(run("W 05000009001101FFFF\n"), format!("0000 000C 185CC00000050911010002A8{most}\n"));
+    // The longest packet in just its room. By the other method the first two would have 0AFA and 6E7F.
+    for (flag, octet, error_control, data) in [
+        ("01", "10", "FF01", "11".repeat(236)),
+        ("00", "00", "29EB", "11".repeat(236)),
+        ("00", "00", "4B85", "00".repeat(236)),
+        ("00", "00", "4B85", "FF".repeat(236)),
+    ] {
+        let packet = format!("185CC00000F1{octet}060200{data}{error_control}");
+        assert_eq!(run(format!("W 05000000{flag}060200F8{data}\n")), format!("0000 00F8 {packet}\n"));
+        assert_eq!(run(format!("W 05000000{flag}060200F9{data}\n")), format!("0000 00F8 {packet}EE\n"));
+        assert_eq!(run(format!("W 05000000{flag}060200F7{data}\n")), format!("0134 0000 {}\n", "EE".repeat(247)));
+    }
+}
+
+/// The values are what Python's binascii.crc_hqx gives, and the sums of the octets by hand.
+#[test]
+fn w_at_the_edges_of_its_fields_with_either_flag() {
+    for (line, packet) in [
+        ("W 7F3FFF0F00FFFF000C", "1FFCFFFF00050FFFFF005E71"),
+        ("W 7F3FFF0F01FFFF000C", "1FFCFFFF00051FFFFF0093DB"),
+        ("W 00000000000000000C", "180CC000000500000000997C"),
+        ("W 00000000010000000C", "180CC000000510000000B955"),
+        // FF is sent for 0; the writer's pad is 0, so for both the word of a load is chosen.
+        ("W 05004009001101000C", "185CC040000509110100FF6A"),
+        ("W 0500E709001101000C", "185CC0E7000509110100C2FF"),
+        ("W 0500000900060200160101000010000001E0B6", "185CC000000F090602000101000010000001E0B6FFFF"),
+        // The CRC has 00 where it is 0.
+        ("W 0500BA09011101000C", "185CC0BA000519110100005D"),
+        ("W 05040D09011101000C", "185CC40D000519110100E400"),
+    ] {
+        let expected = format!("0000 {:04X} {packet}\n", packet.len() / 2);
+        let (letter, digits) = line.split_at(2);
+        assert_eq!(run(line), expected, "{line}");
+        assert_eq!(run(format!("{letter}{}\n", digits.to_lowercase())), expected, "{line}");
+    }
+}
+
+/// 50 comes before 51 and 51 before 52, with flag 0 too; a flag that is neither 0 nor 1 makes the line bad before that.
+#[test]
+fn w_refuses_in_order_and_a_bad_flag_is_a_bad_line() {
+    let data = "00".repeat(237);
+    for flag in ["00", "01"] {
+        for fields in ["80000009", "FF000009", "05400009", "05FFFF09", "05000010", "050000FF", "FFFFFFFF"] {
+            assert_eq!(run(format!("W {fields}{flag}11010002{data}\n")), "0132 0000 EEEE\n", "{fields}");
+            assert_eq!(run(format!("W {fields}{flag}1101000C\n")), format!("0132 0000 {}\n", "EE".repeat(12)));
+        }
+        assert_eq!(run(format!("W 05000009{flag}11010002{data}\n")), "0133 0000 EEEE\n");
+        assert_eq!(run(format!("W 05000009{flag}11010100{data}\n")), format!("0133 0000 {}\n", "EE".repeat(256)));
+        assert_eq!(run(format!("W 05000009{flag}11010002{}\n", &data[2..])), "0134 0000 EEEE\n");
+    }
+    let unchanged = run(format!("{GOOD}M\nO\n"));
+    let mut rows = Vec::new();
+    for flag in 2..=255_u8 {
+        for fields in ["05000009", "80000009", "05400010"] {
+            rows.push((format!("W {fields}{flag:02X}1101000C"), "0200".into()));
+            rows.push((format!("W {fields}{flag:02X}11010000{data}"), "0200".into()));
+        }
+    }
+    answers(&rows);
+    // Eight octets: what a line had before the flag, and one of which only the room is cut.
+    for octets in ["050000091101000E", "0500000901110100", "0500000900110100", "0000000000000000", "0100010101010101"] {
+        let line = format!("W {octets}");
+        assert_eq!(run(format!("{line}\n{GOOD}M\nO\n")), format!("0200\n{unchanged}"), "{line}");
+    }
+}
+
+/// What W writes with either flag R reads as the same fields, and W writes it again from them.
+#[test]
+fn r_reads_what_w_writes() {
+    for flag in ["00", "01"] {
+        for (pid, count, ack, kind, data) in [
+            ("05", "0000", "09", "1101", ""),
+            ("7F", "3FFF", "0F", "FFFF", "00"),
+            ("00", "0000", "00", "0000", "FFFF"),
+            ("51", "2A55", "06", "0602", "0101000010000001E0B6"),
+            ("05", "0001", "08", "0609", &"A7".repeat(236)),
+        ] {
+            let room = format!("{:04X}", data.len() / 2 + 12);
+            let write = format!("W {pid}{count}{ack}{flag}{kind}{room}{data}\n");
+            let printed = run(&write);
+            let packet = printed.strip_prefix(&format!("0000 {room} ")).expect("it is written");
+            let apid = u16::from_str_radix(pid, 16).expect("digits") * 16 + 12;
+            let (service, subtype) = kind.split_at(2);
+            let read = format!("0000 0000 {apid:04X} {count} {flag} {ack} {service} {subtype} 00 {data}\n");
+            assert_eq!(run(format!("R {packet}")), read, "{write}");
+            // With the other flag's bit it is not right any more.
+            let octet = u8::from_str_radix(&packet[12..14], 16).expect("digits");
+            let other = format!("{}{:02X}{}", &packet[..12], octet ^ 16, &packet[14..]);
+            assert!(run(format!("R {other}")).starts_with("0102 "), "{write}");
+        }
+    }
+}
+
+/// What W writes with flag 0 is served: a load, whose word then stands in the store, and a check, whose value is the CRC.
+#[test]
+fn x_of_what_w_writes() {
+    let load = "185CC000000F090602000101000010000001E0B6FFFF";
+    assert_eq!(run("W 0500000900060200160101000010000001E0B6\n"), format!("0000 0016 {load}\n"));
+    let store = format!("E0B6{}", "00".repeat(126));
+    assert_eq!(
+        run(format!("X {load}\nM\n")),
+        format!(
+            "0851C000000D00000000000000010100185CC0000851C001000D00000000000000010700185CC000\n\
+             0000 0000 0028 0002 0000\n{store}\n"
+        )
+    );
+    // The same with 00 for FF: refused, and the store is left.
+    for wrong in ["00FF", "FF00", "0000"] {
+        let line = format!("X {}{wrong}\n", &load[..40]);
+        assert_eq!(
+            run(format!("{line}M\n")),
+            format!(
+                "0851C000001100000000000000010200185CC0000002FFFF\n0102 FFFF 0018 0001 0000\n{}\n",
+                "00".repeat(128)
+            )
+        );
+    }
+    // 1D0F is the CRC of two zero octets; their ISO checksum is FFFF.
+    let check = "185CC000000D0006090001010000100000012576";
+    assert_eq!(run("W 0500000000060900140101000010000001\n"), format!("0000 0014 {check}\n"));
+    assert_eq!(
+        run(format!("X {check}\n")),
+        "0859C000001300000000000000060A0001010000100000011D0F\n0000 0000 001A 0000 0001\n"
+    );
+}
+
+/// Each service with flag 0 under the profile at the start, and each check behind check 2 that refuses.
+#[test]
+fn x_with_flag_0() {
+    let by_iso = |text: &str| x(&common::sealed_by_iso(text));
+    let lines = [
+        x(&common::request_by_iso(0, 6, 2, "01 01 0000103E 0002 ABCD1456")),
+        x(&common::request_by_iso(0, 6, 5, "01 01 0000103E 0002")),
+        x(&common::request_by_iso(0, 6, 9, "01 02 0000103E 0002 00001000 0001")),
+        x(&common::request_by_iso(0, 17, 1, "")),
+        by_iso("385C C000 0005 00 11 01 00"),
+        by_iso("186C C000 0005 00 11 01 00"),
+        by_iso("185C C000 0005 00 09 05 00"),
+        by_iso("185C C000 0005 00 06 03 00"),
+        x(&common::request_by_iso(0, 17, 1, "00")),
+        x(&common::request_by_iso(0, 6, 5, "02 01 00001000 0001")),
+        x(&common::request_by_iso(0, 6, 5, "01 01 00001040 0001")),
+    ];
+    let refused = |count: u16, id: &str, code: &str, detail: &str| {
+        let frame = format!("0851{:04X}001100000000000000010200{id}C000{code}{detail}", 0xC000 + count);
+        format!("{frame}\n01{} {detail} 0018 {:04X} 0003\n", &code[2..], count + 1)
+    };
+    let expected = [
+        "\n0000 0000 0000 0000 0000\n".to_string(),
+        "0859C00000150000000000000006060001010000103E0002ABCD1456\n0000 0000 001C 0000 0001\n".into(),
+        "0859C001001B00000000000000060A0001020000103E0002E18B0000100000011D0F\n0000 0000 0022 0000 0002\n".into(),
+        "0859C002000900000000000000110200\n0000 0000 0010 0000 0003\n".into(),
+        refused(0, "385C", "0010", "0001"),
+        refused(1, "186C", "0000", "006C"),
+        refused(2, "185C", "0003", "0009"),
+        refused(3, "185C", "0004", "0603"),
+        refused(4, "185C", "0005", "0000"),
+        refused(5, "185C", "0011", "0002"),
+        refused(6, "185C", "0013", "0001"),
+    ];
+    assert_eq!(run(lines.concat()), expected.concat());
 }
 
 #[test]
@@ -697,7 +1012,8 @@ fn d_sets_nothing() {
         x(&common::request(0, 6, 5, "02 01 00001050 0001")),
         GOOD.into(),
         "R 185CC0000005191101000168\n".into(),
-        "W 050000091101000E\n".into(),
+        "W 05000009011101000E\n".into(),
+        "W 05000009001101000E\n".into(),
         line('V', AT_THE_START),
         "C 0000\n".into(),
         "C \n".into(),
@@ -773,6 +1089,12 @@ fn bad_lines() {
         "B FFFF00".into(),
         "W ".into(),
         "W 05000009110100".into(),
+        // What it had before the flag, and flags that are neither 0 nor 1.
+        "W 050000091101000E".into(),
+        "W 0500000901110100".into(),
+        "W 05000009021101000C".into(),
+        "W 05000009101101000C".into(),
+        "W 05000009FF1101000C".into(),
         // A letter that takes octets has its space even for none.
         "S".into(),
         "K".into(),

@@ -86,9 +86,10 @@ fn each_ack_value_asks_for_its_reports() {
 }
 
 #[test]
-fn checksum_flag_pad_and_the_other_ack_bits_are_not_examined() {
+fn pad_and_the_other_ack_bits_are_not_examined() {
     let mut unit = Unit::new();
-    unit.accepts(&common::sealed("185C FFFF 0005 06 11 01 A5"), "0859C000 0009 000000000000 00110200");
+    unit.accepts(&common::sealed("185C FFFF 0005 16 11 01 A5"), "0859C000 0009 000000000000 00110200");
+    unit.accepts(&hex("185C FFFF 0005 06 11 01 A5 8C3C"), "0859C001 0009 000000000000 00110200");
 }
 
 #[test]

@@ -12,6 +12,7 @@ use second::cases::{self, Command, State};
 use second::clauses::{ALONE, BOTH};
 use second::random::Random;
 use second::sample_parts::{self, IMAGE_PART};
+use second::write_rows;
 
 fn run(program: &str, arguments: &[&str]) -> Output {
     process::Command::new(program).args(arguments).output().expect("the program starts")
@@ -142,6 +143,7 @@ fn parts_set_nothing_and_are_wanted() {
 
     // Bad lines are no commands, so they are left out of both.
     let bad = ["bad line", "bad line F of 70,000 octets", "bad line D of no octets", "bad line D of one octet"];
+    let bad = [&bad[..], &write_rows::BAD].concat();
     let missing = |input: &[u8], output: &[u8]| {
         let tallied = tally(&file("parts.in", input), &file("parts.out", output));
         assert_eq!(tallied.status.code(), Some(1));

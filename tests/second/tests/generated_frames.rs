@@ -22,6 +22,7 @@ use second::sample_map;
 use second::telemetry;
 use second::terminal;
 use second::tm::Counts;
+use second::write_rows;
 
 fn run(program: &str, arguments: &[&str]) -> Output {
     process::Command::new(program).args(arguments).output().expect("the program starts")
@@ -353,7 +354,8 @@ fn frames_of_cases_set_nothing_and_are_wanted() {
     };
     // Bad lines are no commands, so they are left out of both.
     let bad = ["bad line", "bad line D of no octets", "bad line D of one octet", "bad line F of 70,000 octets"];
-    let mut expected = bad.map(String::from).to_vec();
+    let mut expected: Vec<String> = bad.into_iter().chain(write_rows::BAD).map(String::from).collect();
+    expected.sort();
     assert_eq!(missing(&with), expected);
     expected.extend(frame_rows::wanted().into_iter().map(|row| format!("F {row}")));
     expected.extend(["F no octets", "F 65,542 octets", "F above 65,542 octets"].map(String::from));

@@ -74,6 +74,36 @@ fn the_example_of_document_01() {
     judge(EXAMPLE, GOOD_RECORD).conforms(1, 3);
 }
 
+/// Flag 0: the ISO checksum, the CRC in its place, FF sent for 0 in both octets, and 00 for one of them. A unit that takes
+/// the other method differs.
+#[test]
+fn the_checksum_flag_selects_the_method() {
+    let record = "185CC00000050911010002A8
+0851C000000D00000000000000010100185CC000
+0859C000000900000000000000110200
+0851C001000D00000000000000010700185CC000
+
+185CC0000005091101001AC0
+0851C002001100000000000000010200185CC000000202A8
+
+185CC19B00050911010EFFFF
+0851C003000D00000000000000010100185CC19B
+0859C001000900000000000000110200
+0851C004000D00000000000000010700185CC19B
+
+185CC19B00050911010E00FF
+0851C005001100000000000000010200185CC19B0002FFFF
+
+";
+    judge(EXAMPLE, record).conforms(4, 8);
+    let refused = "0851C000001100000000000000010200185CC00000021AC0";
+    judge(EXAMPLE, lines(&["185CC00000050911010002A8", refused, ""])).differs(2, &both(1, ACCEPTED, refused, 5));
+    let due = "0851C000001100000000000000010200185CC000000202A8";
+    judge(EXAMPLE, lines(&["185CC0000005091101001AC0", refused, ""])).differs(2, &both(1, due, refused, 22));
+    let accepted = lines(&["185CC0000005091101001AC0", ACCEPTED, TESTED, COMPLETED, ""]);
+    judge(EXAMPLE, accepted).differs(2, &both(1, due, ACCEPTED, 5));
+}
+
 #[test]
 fn the_end_of_the_input_ends_a_group() {
     let record = format!("{GOOD_RECORD}{WRONG_RECORD}");

@@ -5,7 +5,7 @@ mod common;
 use common::{area, hex, packet, profile, request, Unit};
 use second::blocks::{read_memory_data, MemoryRequest};
 use second::refusal::Refusal;
-use second::tc::{self, Order};
+use second::tc::{self, Method, Order};
 use second::terminal::Verdict;
 use second::tm::{next_count, Counts};
 
@@ -44,9 +44,11 @@ fn p6_load_of_114_and_115_words() {
     let mut data = hex("01 01 00001000 0072");
     data.extend([0x11; 228]);
     let mut buffer = [0; 300];
-    let order = Order { pid: 5, count: 0, ack: 9, service: 6, subtype: 2, data: &data };
-    assert_eq!(tc::write(&order, &mut buffer), Ok(248));
-    assert_eq!(tc::read(&buffer[..248]).map(|read| read.data), Ok(&data[..]));
+    for method in [Method::Crc, Method::Iso] {
+        let order = Order { pid: 5, count: 0, ack: 9, method, service: 6, subtype: 2, data: &data };
+        assert_eq!(tc::write(&order, &mut buffer), Ok(248));
+        assert_eq!(tc::read(&buffer[..248]).map(|read| read.data), Ok(&data[..]));
+    }
 
     let mut data = hex("01 01 00001000 0073");
     data.extend([0x11; 230]);

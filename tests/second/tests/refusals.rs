@@ -2,7 +2,7 @@
 
 mod common;
 
-use common::{area, hex, profile, request, sealed, Unit};
+use common::{area, hex, profile, request, request_by_iso, sealed, sealed_by_iso, Unit};
 use second::map::{Flags, Rights};
 use second::terminal::Verdict;
 use second::tm::Counts;
@@ -138,6 +138,30 @@ fn number_2_the_right_value() {
 }
 
 #[test]
+fn number_2_the_right_value_of_the_method_that_the_flag_selects() {
+    let mut unit = Unit::new();
+    for wrong in ["1AC0", "02A9", "82A8", "A802", "0000", "FFFF", "0167", "B1E8"] {
+        unit.refuses(&hex(&format!("185CC000000509110100 {wrong}")), 2, 0x02A8);
+    }
+    for wrong in ["B1E8", "1AC0", "02A8"] {
+        unit.refuses(&hex(&format!("185CC000000519110100 {wrong}")), 2, 0x0167);
+    }
+    for (body, right, wrong) in [
+        ("185CC040000509110100", 0xFF6A, "006A"),
+        ("185CC0E7000509110100", 0xC2FF, "C200"),
+        ("185CC19B00050911010E", 0xFFFF, "00FF"),
+        ("185CC19B00050911010E", 0xFFFF, "FF00"),
+        ("185CC19B00050911010E", 0xFFFF, "0000"),
+    ] {
+        unit.refuses(&hex(&format!("{body} {wrong}")), 2, right);
+        assert_eq!(unit.send(&hex(&format!("{body} {right:04X}"))).verdict, Verdict::Accepted);
+    }
+    // Another PID with the CRC, which the OMEGA manual's packet has, but flag 0: error control comes first.
+    unit.refuses(&hex("1D1CC001000500110100CC7F"), 2, 0x727B);
+    unit.refuses(&hex("1D1CC001000500110100727B"), 0, 0x051C);
+}
+
+#[test]
 fn number_16_the_first_wrong_field() {
     let mut unit = Unit::new();
     unit.refuses(&sealed("385C C000 0005 19 11 01 00"), 16, 1);
@@ -152,6 +176,30 @@ fn number_16_the_first_wrong_field() {
     unit.refuses(&sealed("005C 0000 0005 F9 11 01 00"), 16, 2);
     unit.refuses(&sealed("105C 0000 0005 F9 11 01 00"), 16, 3);
     unit.refuses(&sealed("185C 0000 0005 F9 11 01 00"), 16, 4);
+}
+
+#[test]
+fn number_16_behind_2_by_the_method_that_the_flag_selects() {
+    let mut unit = Unit::new();
+    for (text, by_iso, place) in [
+        ("385C C000 0005 09 11 01 00", 0xA0E9, 1),
+        ("085C C000 0005 09 11 01 00", 0xB208, 2),
+        ("105C C000 0005 09 11 01 00", 0x5A58, 3),
+        ("185C 8000 0005 09 11 01 00", 0x44A6, 4),
+        ("185C C000 0005 29 11 01 00", 0x6129, 5),
+        ("185C C000 0005 E9 11 01 00", 0x9D2C, 5),
+    ] {
+        unit.refuses(&hex(&format!("{text} {by_iso:04X}")), 16, place);
+        unit.refuses(&sealed(text), 2, by_iso);
+    }
+    for (text, by_crc, place) in [
+        ("385C C000 0005 19 11 01 00", 0x386A, 1),
+        ("185C C000 0005 39 11 01 00", 0x3629, 5),
+        ("185C C000 0005 F9 11 01 00", 0x858D, 5),
+    ] {
+        unit.refuses(&hex(&format!("{text} {by_crc:04X}")), 16, place);
+        unit.refuses(&sealed_by_iso(text), 2, by_crc);
+    }
 }
 
 #[test]
@@ -266,6 +314,7 @@ fn number_19_the_first_block_outside() {
 fn a_refusal_is_reported_whether_asked_or_not() {
     for ack in 0..16 {
         Unit::new().refuses(&request(ack, 6, 9, "02 01 00001000 0001"), 17, 2);
+        Unit::new().refuses(&request_by_iso(ack, 6, 9, "02 01 00001000 0001"), 17, 2);
     }
 }
 

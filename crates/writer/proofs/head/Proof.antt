@@ -5,7 +5,7 @@ use mathlib.Core.Path.{_≡_, ap, _∙_}
 use Prim.Native.Nat.{ℕ, _+_, _-_, _/_, _%_}
 use native.Mathlib.Omega.{arith}
 use Rattle.fields.specs.Fields.{idOf, headerOf, apidOf}
-use Rattle.tc.specs.Layout.{category, around, headOf}
+use Rattle.tc.specs.Layout.{category, flagOf, around, headOf}
 use borrow.Author.Needs.{needs}
 use Rattle.writer.proofs.head.Statement.{statement}
 use Rattle.writer.proofs.head.Tie as tie
@@ -31,17 +31,17 @@ add-length c = search needs
 sub-length : tie.Need-sub-length
 sub-length c = search needs
 
-cast-t8 : tie.Need-cast-t8
-cast-t8 c = search needs
+flag-of-requires : tie.Need-flag-of-requires
+flag-of-requires c κs = search needs
+
+cast-t10 : tie.Need-cast-t10
+cast-t10 c = search needs
 
 join-header-requires : tie.Need-join-header-requires
 join-header-requires c κs = search needs
 
-cast-t13 : tie.Need-cast-t13
-cast-t13 c = search needs
-
-cast-t14 : tie.Need-cast-t14
-cast-t14 c = search needs
+cast-t15 : tie.Need-cast-t15
+cast-t15 c = search needs
 
 cast-t16 : tie.Need-cast-t16
 cast-t16 c = search needs
@@ -58,20 +58,23 @@ cast-t22 c = search needs
 cast-t24 : tie.Need-cast-t24
 cast-t24 c = search needs
 
+cast-t26 : tie.Need-cast-t26
+cast-t26 c = search needs
+
 returns : tie.Need-returns
 unfolding headOf
 returns c =
-    let s = c .before .before .before .before .before .before .args in
-    let k = c .before .before .before in
+    let s = c .before .before .before .before .before .before .before .args in
+    let k = c .before .before .before .before in
     let id : k .join-id .result ≡ idOf (record { version = 0; kind = 1; header = 1; apid = apidOf (s .order .pid) category }) =
     k .join-id .ensures ∙ ap (λ (apid : ℕ). idOf (record { version = 0; kind = 1; header = 1; apid = apid })) (k .before .join-apid .ensures) in
-    let first : c .join-header .result % 256 ≡ headerOf (record { version = 0; checksum = 1; ack = s .order .ack }) = omega (arith, c .join-header .ensures) in
+    let first : c .join-header .result % 256 ≡ headerOf (record { version = 0; checksum = flagOf (s .order .method); ack = s .order .ack }) = omega (arith, c .join-header .ensures, c .before .before .flag-of .ensures) in
     let n : ℕ = s .octets + around - 7 in
     λ i.
     id i / 256
     ∷ id i % 256
-    ∷ c .before .before .join-sequence .ensures i / 256
-    ∷ c .before .before .join-sequence .ensures i % 256
+    ∷ c .before .before .before .join-sequence .ensures i / 256
+    ∷ c .before .before .before .join-sequence .ensures i % 256
     ∷ n / 256
     ∷ n % 256
     ∷ first i
@@ -91,13 +94,14 @@ head-spec =
     cast-length
     add-length
     sub-length
-    cast-t8
+    flag-of-requires
+    cast-t10
     join-header-requires
-    cast-t13
-    cast-t14
+    cast-t15
     cast-t16
     cast-t18
     cast-t20
     cast-t22
     cast-t24
+    cast-t26
     returns)

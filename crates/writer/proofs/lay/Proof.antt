@@ -1,13 +1,13 @@
 -- `writer::lay` meets its contract.
 -- Assumes nothing.
 use mathlib.Core.List.{List}
-use mathlib.Core.Path.{ap, _∙_, sym}
+use mathlib.Core.Path.{refl, ap, _∙_, sym}
 use Prim.Native.Nat.{ℕ, _+_, _≤_}
 use native.Mathlib.Omega.{arith}
 use lib.ListN.{length, take, length-take}
 use denote.Ref.{now}
 use borrow.Author.Needs.{needs}
-use Rattle.tc.proofs.Laying.{control-crc, laid-packet}
+use Rattle.tc.proofs.Laying.{control-by, laid-packet}
 use Rattle.writer.specs.Writer.{fieldsFor}
 use Rattle.octets.specs.Copy.{laid}
 use Rattle.writer.proofs.lay.Statement.{statement}
@@ -45,7 +45,7 @@ returns c =
     let room : length (now (s .application)) + 10 ≤ length (now (s .buffer)) = omega arith in
     laid-packet (now (s .buffer)) (fieldsFor (s .order)) (now (s .application)) (b .lay-body .last .1 .1 .0) (c .before .before .put .last .0)
     (b .lay-body .result) (e .before .error-control .result) room (b .lay-body .ensures .0) (b .lay-body .ensures .1)
-    (e .before .error-control .ensures ∙ sym (control-crc (fieldsFor (s .order)) (take (b .lay-body .result) (b .lay-body .last .1 .1 .0))))
+    (e .before .error-control .ensures ∙ sym (control-by (fieldsFor (s .order)) (s .order .method) (take (b .lay-body .result) (b .lay-body .last .1 .1 .0)) refl))
     (c .before .before .put .ensures .1 ∙ ap (λ (o : List ℕ). laid (b .lay-body .last .1 .1 .0) (b .lay-body .result) o) (e .octets-of16 .ensures))
 
 pub lay-spec : {M : Type 1} → statement M

@@ -9,7 +9,7 @@ use second::hex;
 use second::map::LONGEST_STORE;
 use second::program;
 use second::random::Random;
-use second::tc::{self, Order};
+use second::tc::{self, Method, Order};
 
 /// The unit's PID, and the memory ID of its area: all of the store, from address 0 on.
 const PID: u8 = 5;
@@ -49,7 +49,8 @@ impl<W: Write> Packets<W> {
 
     /// One packet without acks; the count 16,383 is followed by 0.
     fn write(&mut self, request: MemoryRequest, data: &[u8]) -> io::Result<()> {
-        let order = Order { pid: PID, count: self.count, ack: 0, service: MEMORY, subtype: request.subtype(), data };
+        let (count, method, subtype) = (self.count, Method::Crc, request.subtype());
+        let order = Order { pid: PID, count, ack: 0, method, service: MEMORY, subtype, data };
         let mut packet = [0; tc::LONGEST];
         let length = tc::write(&order, &mut packet)
             .map_err(|number| io::Error::other(format!("the writer refuses a packet with {number}")))?;

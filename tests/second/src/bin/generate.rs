@@ -1,9 +1,11 @@
 //! `generate SEED PACKETS` writes input for `cases`: maps, stores, counts, times and buffers of
-//! every kind, and under them packets, frames, octets in parts, other commands and bad lines.
+//! every kind, and under them packets, frames, octets in parts, other commands and bad lines. Packets are of both
+//! methods of error control, right and wrong in each way.
 
 use std::io::{self, BufWriter, Write};
 use std::process::ExitCode;
 
+use second::control_rows::METHODS;
 use second::crc::{crc, START};
 use second::frame_causes::Aims;
 use second::hex;
@@ -11,10 +13,12 @@ use second::map::{Area, Flags, Profile, Rights, AREA_PLACES, LONGEST_STORE};
 use second::program;
 use second::random::Random;
 use second::sample;
+use second::sample_control::{Turns, REQUESTS};
 use second::sample_frame;
 use second::sample_map::{self, Map, CLAUSES};
 use second::sample_parts::{self, IMAGE_PART};
 use second::sample_wider;
+use second::sample_write::{self, BAD_FLAGS};
 
 const LONG_PACKETS: [usize; 3] = [65_535, 65_536, 69_999];
 /// The longest that a length field can announce, one whose length field would be right if it wrapped, the longest that
@@ -47,6 +51,8 @@ struct Generator<W: Write> {
     aims: Aims,
     clean_frames: usize,
     swept_frames: usize,
+    /// What the error control of packets is to be.
+    controls: Turns,
 }
 
 fn main() -> ExitCode {
@@ -66,6 +72,7 @@ fn main() -> ExitCode {
         aims: Aims::new(),
         clean_frames: 0,
         swept_frames: 0,
+        controls: Turns::default(),
     };
     program::finish(generator.run())
 }
@@ -78,6 +85,10 @@ impl<W: Write> Generator<W> {
             match episode % 20 {
                 0 => self.at_the_start()?,
                 4 => self.unsound_maps()?,
+                6 => {
+                    self.error_controls()?;
+                    self.ordinary()?;
+                }
                 8 => self.bad_stores()?,
                 9 => self.bad_counts()?,
                 10 => self.unsound_narrower()?,
@@ -140,7 +151,18 @@ impl<W: Write> Generator<W> {
             self.ask(&wide)?;
             self.packets_under(&narrow.profile, 3)?;
         }
-        Ok(())
+        self.cut_at_the_end()
+    }
+
+    /// An area that ends at 2^32 stands, and the one asked about lacks its last word.
+    fn cut_at_the_end(&mut self) -> io::Result<()> {
+        let length = self.random.between(2, 40) as u32;
+        let mut map = sample_map::sound(&mut self.random, length, 1);
+        let start = 0_u32.wrapping_sub(length);
+        map.profile.areas[0] = Area { start, length, first_word: 0, ..map.profile.areas[0] };
+        self.begin(&map)?;
+        map.profile.areas[0].length -= 1;
+        self.ask(&map.profile)
     }
 
     fn bad_stores(&mut self) -> io::Result<()> {
@@ -231,6 +253,78 @@ impl<W: Write> Generator<W> {
             self.line(b"O", None)?;
         }
         Ok(())
+    }
+
+    /// Beside the packets that are wanted: each way of error control with each service, each way of W, packets that are
+    /// written and then served, and ones whose flag is off.
+    fn error_controls(&mut self) -> io::Result<()> {
+        let areas = self.random.between(1, 4) as usize;
+        let words = self.random.between(8, 80) as u32;
+        let mut map = sample_map::sound(&mut self.random, words, areas);
+        map.profile.flags = Flags::ALL;
+        for area in &mut map.profile.areas {
+            area.rights = Rights::ALL;
+        }
+        self.begin(&map)?;
+        for _ in 0..self.controls.round() {
+            let packet = self.controls.packet(&mut self.random, &map.profile);
+            if self.random.once_in(4) {
+                self.line(b"R", Some(&packet))?;
+            }
+            self.line(b"X", Some(&packet))?;
+        }
+        for way in sample_write::ways() {
+            let octets = sample_write::octets(&mut self.random, map.profile.pid, way);
+            self.write(&octets)?;
+        }
+        self.written_and_served(&map.profile)?;
+        self.flags_off(&map.profile)?;
+        self.line(b"M", None)
+    }
+
+    /// For each service and method a packet that W writes, and the same packet to the terminal.
+    fn written_and_served(&mut self, profile: &Profile) -> io::Result<()> {
+        for method in METHODS {
+            for request in REQUESTS {
+                let packet = sample::short(&mut self.random, profile, request, method);
+                let octets = sample_write::rewriting(&packet);
+                self.write(&octets)?;
+                if let Some(packet) = sample_write::written(&octets) {
+                    self.line(b"X", Some(&packet))?;
+                }
+            }
+        }
+        Ok(())
+    }
+
+    /// Each flag off alone, and all of service 6: packets of each service and method.
+    fn flags_off(&mut self, profile: &Profile) -> io::Result<()> {
+        for flags in [
+            Flags { load: false, ..Flags::ALL },
+            Flags { dump: false, ..Flags::ALL },
+            Flags { check: false, ..Flags::ALL },
+            Flags { connection: false, ..Flags::ALL },
+            Flags { connection: true, ..Flags::default() },
+        ] {
+            let profile = Profile { flags, ..*profile };
+            self.profile(&profile, usize::from(profile.area_count))?;
+            for method in METHODS {
+                for request in REQUESTS {
+                    let packet = sample::short(&mut self.random, &profile, request, method);
+                    self.line(b"X", Some(&packet))?;
+                }
+            }
+        }
+        Ok(())
+    }
+
+    /// A W line and, where it writes a packet, the R line of that packet.
+    fn write(&mut self, octets: &[u8]) -> io::Result<()> {
+        self.line(b"W", Some(octets))?;
+        match sample_write::written(octets) {
+            Some(packet) => self.line(b"R", Some(&packet)),
+            None => Ok(()),
+        }
     }
 
     /// A store that holds blocks of 240 words.
@@ -435,7 +529,7 @@ impl<W: Write> Generator<W> {
 
     fn any_packet(&mut self, profile: &Profile) -> io::Result<()> {
         if self.packets < self.next_long_packet {
-            let packet = sample::packet(&mut self.random, profile);
+            let packet = self.sample(profile);
             return self.packet(&packet);
         }
         let octets = LONG_PACKETS[self.long_packets % LONG_PACKETS.len()];
@@ -446,6 +540,14 @@ impl<W: Write> Generator<W> {
         let packet = sample::long_packet(&mut self.random, profile, octets);
         self.line(b"R", Some(&packet))?;
         self.packet(&packet)
+    }
+
+    /// A packet of any kind, now and then the next way of error control.
+    fn sample(&mut self, profile: &Profile) -> Vec<u8> {
+        match self.random.once_in(12) {
+            true => self.controls.packet(&mut self.random, profile),
+            false => sample::packet(&mut self.random, profile),
+        }
     }
 
     fn packet(&mut self, packet: &[u8]) -> io::Result<()> {
@@ -461,7 +563,7 @@ impl<W: Write> Generator<W> {
         match self.random.below(240) {
             0..=4 => self.line(b"O", None),
             5..=28 => {
-                let packet = sample::packet(&mut self.random, profile);
+                let packet = self.sample(profile);
                 self.line(b"R", Some(&packet))
             }
             29..=52 => self.write_line(),
@@ -535,6 +637,7 @@ impl<W: Write> Generator<W> {
         };
         let ack =
             if self.random.once_in(10) { self.random.pick(&[16, 17, 128, 255]) } else { self.random.below(16) as u8 };
+        let flag = if self.random.once_in(12) { self.random.pick(&BAD_FLAGS) } else { self.random.below(2) as u8 };
         let data_octets = match self.random.below(3) {
             0 => self.random.pick(&[0, 1, 2, 235, 236, 237, 238, 250, 300, 1_000]),
             _ => self.random.below(237) as usize,
@@ -551,15 +654,15 @@ impl<W: Write> Generator<W> {
         let room = if self.random.once_in(400) { 65_535 } else { room };
         let mut octets = vec![pid];
         octets.extend_from_slice(&count.to_be_bytes());
-        octets.extend_from_slice(&[ack, self.random.octet(), self.random.octet()]);
+        octets.extend_from_slice(&[ack, flag, self.random.octet(), self.random.octet()]);
         octets.extend_from_slice(&room.to_be_bytes());
         octets.extend(self.random.octets(data_octets));
-        self.line(b"W", Some(&octets))
+        self.write(&octets)
     }
 
     /// A line that is none of the commands.
     fn bad_line(&mut self) -> io::Result<()> {
-        let text: &[u8] = match self.random.below(78) {
+        let text: &[u8] = match self.random.below(85) {
             0 => b"",
             1 => b" ",
             2 => b"X",
@@ -635,11 +738,18 @@ impl<W: Write> Generator<W> {
             72 => b"D  FFFF00",
             73 => b"D FFFF 00",
             74 => b"D FFFF00 ",
-            75 => return self.long_bad_line(),
+            75 => b"W 050000091101000E",
+            76 => b"W 0500000901110100",
+            77 => b"W 0500000900110100",
+            78 => b"W 05000009021101000C",
+            79 => b"W 05000009101101000C",
+            80 => b"W 05000009FF1101000C",
+            81 => b"W 05000009 001101000C",
+            82 => return self.long_bad_line(),
             last => {
                 let mut octets = profile_octets(&second::hexline::profile(), 8);
                 octets.extend_from_slice(&[0; 14]);
-                return self.line(if last == 76 { b"P" } else { b"V" }, Some(&octets));
+                return self.line(if last == 83 { b"P" } else { b"V" }, Some(&octets));
             }
         };
         self.output.write_all(text)?;

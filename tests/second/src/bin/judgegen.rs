@@ -12,6 +12,7 @@ use second::program;
 use second::random::Random;
 use second::sample;
 use second::sample_bad_unit::{self, AIMS};
+use second::sample_control::Turns;
 use second::sample_line::{self, Bad, BAD};
 use second::sample_record::{self, Entry};
 use second::sample_unit::{self, Stated, WAYS};
@@ -107,6 +108,7 @@ fn main() -> ExitCode {
 fn write_files(seed: u64, count: u64, folder: &Path) -> io::Result<()> {
     fs::create_dir_all(folder)?;
     let mut random = Random::new(seed);
+    let mut controls = Turns::default();
     let (mut unsound, mut bad) = (0, 0);
     for (number, way) in (1..=count).zip(TURNS.into_iter().cycle()) {
         let round = (number as usize - 1) / TURNS.len();
@@ -116,16 +118,16 @@ fn write_files(seed: u64, count: u64, folder: &Path) -> io::Result<()> {
                 let others = !(unsound / WAYS.len()).is_multiple_of(2);
                 let stated = sample_unit::unsound(&mut random, WAYS[unsound % WAYS.len()], others);
                 unsound += 1;
-                (unit_text(&mut random, &stated), any_record(&mut random, unsound))
+                (unit_text(&mut random, &stated), any_record(&mut random, &mut controls, unsound))
             }
             Way::BadUnit => {
                 let stated = sample_unit::sound_with_everything(&mut random);
                 let mut items = sample_unit::items(&mut random, &stated);
                 sample_bad_unit::spoil(&mut random, &stated, &mut items, &AIMS[bad % AIMS.len()]);
                 bad += 1;
-                (sample_unit::text(&mut random, &items), any_record(&mut random, bad))
+                (sample_unit::text(&mut random, &items), any_record(&mut random, &mut controls, bad))
             }
-            _ => pair(&mut random, way, BAD[round % BAD.len()]),
+            _ => pair(&mut random, &mut controls, way, BAD[round % BAD.len()]),
         };
         fs::write(folder.join(format!("{number:04}.unit")), unit)?;
         fs::write(folder.join(format!("{number:04}.record")), record)?;
@@ -140,17 +142,17 @@ fn unit_text(random: &mut Random, stated: &Stated) -> Vec<u8> {
 }
 
 /// In turn a record that another unit gave, one that differs, a bad one and none: none is looked at.
-fn any_record(random: &mut Random, turn: usize) -> Vec<u8> {
+fn any_record(random: &mut Random, controls: &mut Turns, turn: usize) -> Vec<u8> {
     match turn % 4 {
         0 => Vec::new(),
         1 => b"zz\n".to_vec(),
-        2 => pair(random, Way::HeaderOctet, Bad::Character).1,
-        _ => pair(random, Way::Conforming, Bad::Character).1,
+        2 => pair(random, controls, Way::HeaderOctet, Bad::Character).1,
+        _ => pair(random, controls, Way::Conforming, Bad::Character).1,
     }
 }
 
 /// A sound unit and a record of that way.
-fn pair(random: &mut Random, way: Way, bad: Bad) -> (Vec<u8>, Vec<u8>) {
+fn pair(random: &mut Random, controls: &mut Turns, way: Way, bad: Bad) -> (Vec<u8>, Vec<u8>) {
     let mut stated = match way {
         Way::Loaded => able(sample_unit::sound_with_everything(random)),
         _ => sample_unit::sound(random),
@@ -161,7 +163,7 @@ fn pair(random: &mut Random, way: Way, bad: Bad) -> (Vec<u8>, Vec<u8>) {
     let Ok(Ok(mut unit)) = unit::read(&mut text.as_slice()) else {
         return (text, Vec::new());
     };
-    let mut packets = packets(random, &stated);
+    let mut packets = packets(random, controls, &stated);
     if way == Way::Loaded {
         packets.extend(load_and_read(random, &stated));
     }
@@ -181,8 +183,9 @@ fn pair(random: &mut Random, way: Way, bad: Bad) -> (Vec<u8>, Vec<u8>) {
     (text, written)
 }
 
-/// Three to nine packets of any kind, among them one with three frames and one that is refused.
-fn packets(random: &mut Random, stated: &Stated) -> Vec<Vec<u8>> {
+/// Five to eleven packets of any kind, among them one with three frames, one that is refused, and the next two ways of
+/// error control.
+fn packets(random: &mut Random, controls: &mut Turns, stated: &Stated) -> Vec<Vec<u8>> {
     let pid = stated.profile.pid;
     let mut packets: Vec<_> = (0..random.between(1, 7)).map(|_| sample::packet(random, &stated.profile)).collect();
     packets.retain(|packet| !packet.is_empty());
@@ -190,6 +193,7 @@ fn packets(random: &mut Random, stated: &Stated) -> Vec<Vec<u8>> {
     let ack = random.octet() & 0x0F;
     let test = sample_record::packet(random, pid, ack, 17, 1, &[]);
     packets.push(sample_record::damaged(random, test));
+    packets.extend((0..2).map(|_| controls.packet(random, &stated.profile)));
     random.shuffle(&mut packets);
     packets
 }

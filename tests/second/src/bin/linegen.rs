@@ -1,5 +1,6 @@
 //! `linegen SEED LINES` writes input for the line program: packets made for its profile and
-//! lines that are damaged as text. The last line has no newline.
+//! lines that are damaged as text. Packets are of both methods of error control, right and wrong in each way. The last
+//! line has no newline.
 
 use std::io::{self, BufWriter, Write};
 use std::process::ExitCode;
@@ -10,6 +11,7 @@ use second::map::Profile;
 use second::program;
 use second::random::Random;
 use second::sample;
+use second::sample_control::Turns;
 
 fn main() -> ExitCode {
     let Some((seed, lines)) = program::seed_and_count() else {
@@ -21,9 +23,13 @@ fn main() -> ExitCode {
 fn write_lines(seed: u64, lines: u64) -> io::Result<()> {
     let profile = hexline::profile();
     let mut random = Random::new(seed);
+    let mut controls = Turns::default();
     let mut output = BufWriter::with_capacity(1 << 16, io::stdout().lock());
     for number in 1..=lines {
-        let line = if number < lines { line(&mut random, &profile) } else { packet_digits(&mut random, &profile) };
+        let line = match number < lines {
+            true => line(&mut random, &profile, &mut controls),
+            false => packet_digits(&mut random, &profile, &mut controls),
+        };
         output.write_all(&line)?;
         if number < lines {
             output.write_all(b"\n")?;
@@ -32,9 +38,9 @@ fn write_lines(seed: u64, lines: u64) -> io::Result<()> {
     output.flush()
 }
 
-fn line(random: &mut Random, profile: &Profile) -> Vec<u8> {
+fn line(random: &mut Random, profile: &Profile, controls: &mut Turns) -> Vec<u8> {
     match random.below(200) {
-        0..=169 => packet_digits(random, profile),
+        0..=169 => packet_digits(random, profile, controls),
         170..=172 => Vec::new(),
         173 => digits(random, 4_096),
         174 => digits(random, 4_097),
@@ -45,12 +51,12 @@ fn line(random: &mut Random, profile: &Profile) -> Vec<u8> {
         }
         177..=179 => b"185CC0000005191101000167".to_vec(),
         180..=184 => {
-            let mut line = packet_digits(random, profile);
+            let mut line = packet_digits(random, profile, controls);
             line.pop();
             line
         }
         _ => {
-            let mut line = packet_digits(random, profile);
+            let mut line = packet_digits(random, profile, controls);
             let place = random.below(line.len() as u64 + 1) as usize;
             let place = random.pick(&[0, place, line.len()]);
             let character = random.pick(&[b'\r', b' ', b'\t', 0, 0x80, 0xFF, b'G', b'g', b'/', b':', b'@', b'`', b'x']);
@@ -63,10 +69,13 @@ fn line(random: &mut Random, profile: &Profile) -> Vec<u8> {
     }
 }
 
-/// A packet of any kind, in upper, lower or mixed case.
-fn packet_digits(random: &mut Random, profile: &Profile) -> Vec<u8> {
+/// A packet of any kind, now and then the next way of error control, in upper, lower or mixed case.
+fn packet_digits(random: &mut Random, profile: &Profile, controls: &mut Turns) -> Vec<u8> {
     let packet = loop {
-        let packet = sample::packet(random, profile);
+        let packet = match random.once_in(6) {
+            true => controls.packet(random, profile),
+            false => sample::packet(random, profile),
+        };
         if !packet.is_empty() {
             break packet;
         }

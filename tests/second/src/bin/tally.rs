@@ -1,7 +1,11 @@
-//! `tally INPUT OUTPUT` pairs the X, V, F, C and D lines of a `cases` input with their answers and counts how often
-//! each verdict and kind of detail was reached, each clause of wider, each cause of a frame's refusal and each kind
-//! of parts, and how often checks of many words and long C lines were. It ends with 1 if one of the fixed list never
-//! was.
+//! `tally INPUT OUTPUT` pairs the X, V, F, R, W, C and D lines of a `cases` input with their answers and counts how
+//! often each verdict and kind of detail was reached, each clause of wider, each cause of a frame's refusal, each way of
+//! error control by either method and each kind of parts, and how often checks of many words and long C lines were. It
+//! ends with 1 if one of the fixed list never was.
+//!
+//! A packet whose error control is not right by its flag's method has to be refused by 2 with the right value, and no
+//! other packet; a W line has to print the packet that is put together here, and an R line of that packet its fields; a
+//! check report has the CRC of what the store holds. Else the tally ends with 2.
 //!
 //! A check of many words counts where the block holds something at both its ends and in its middle, so the store is
 //! followed through the accepted loads.
@@ -19,16 +23,21 @@ use std::ops::Range;
 use std::process::ExitCode;
 
 use second::blocks::{read_memory_data, Block, MemoryRequest};
-use second::cases::{self, Command, State, LONGEST_LINE};
+use second::cases::{self, Command, State, WriteFields, LONGEST_LINE};
 use second::clauses::{self, Clause};
-use second::crc::START;
+use second::control_rows;
+use second::crc::{bit_by_bit, START};
 use second::frame_causes;
 use second::frame_rows;
 use second::hex;
 use second::hexline;
+use second::iso;
 use second::map::{store_in_order, Area, Profile, Unsound, LONGEST_STORE};
 use second::program;
+use second::refusal::{self, Refusal};
+use second::tc::Method;
 use second::tm::{HEADER_OCTETS, LENGTH_FIELD_OFFSET, PACKET_ID, SEQUENCE_FLAGS};
+use second::write_rows;
 
 const ADDRESSES: u64 = 1 << 32;
 /// The octets of a frame whose length field is FFFF.
@@ -62,6 +71,9 @@ const MORE_THOUSANDS: &str = "4,096 to 32,767";
 const CHECK_OF_ALL: &str = "accepted (6,9) of 32,768 words";
 /// A C line of more octets than these is a long one.
 const SHORT_WHOLE: usize = 2_048;
+const REPORTED: &str = "accepted (6,9), reported by the CRC, which is not the ISO checksum";
+const READ: [&str; 4] = ["read", "refused  2", "refused 16", "read, which W wrote"];
+const SERVED: &str = "accepted, which W wrote";
 
 /// How often each kind was reached; and the packets, the maps, the V lines, the F lines, the D lines, and the wholes
 /// of which D lines were the parts.
@@ -88,6 +100,12 @@ struct Verdict {
     refused: bool,
     number: u8,
     detail: u16,
+}
+
+impl Verdict {
+    fn refusal(&self) -> Option<Refusal> {
+        self.refused.then_some(Refusal { number: self.number, detail: self.detail })
+    }
 }
 
 fn main() -> ExitCode {
@@ -127,6 +145,7 @@ fn count(mut input: impl BufRead, mut output: impl BufRead) -> io::Result<Tally>
     let mut tally = Tally::default();
     let mut state = State::new();
     let mut parts = Vec::new();
+    let mut written = None;
     while let Some(line) = next_line(&mut input)? {
         let command = if line.len() <= LONGEST_LINE { cases::parse(&line) } else { None };
         let mut parts_before = mem::take(&mut parts);
@@ -154,15 +173,33 @@ fn count(mut input: impl BufRead, mut output: impl BufRead) -> io::Result<Tally>
                 }
             }
             Some(Command::Answer(packet)) => {
-                reads_cleanly(&wanted_line(&mut output)?)?;
+                let frames = wanted_line(&mut output)?;
+                reads_cleanly(&frames)?;
                 let verdict = verdict(&wanted_line(&mut output)?)?;
                 tally.packets += 1;
-                for kind in kinds(&state, &packet, &verdict) {
-                    *tally.kinds.entry(kind).or_default() += 1;
-                }
+                let mut rows = kinds(&state, &packet, &verdict);
+                rows.extend(control_kinds(&packet, verdict.refusal())?);
                 if !verdict.refused {
+                    rows.extend(report_kind(&state, &packet, &frames)?);
+                    rows.extend(served_kind(&packet, written.as_ref()));
                     follow(&mut state, &packet);
                 }
+                for kind in rows {
+                    *tally.kinds.entry(kind).or_default() += 1;
+                }
+            }
+            Some(Command::ReadPacket(packet)) => {
+                let answer = wanted_line(&mut output)?;
+                for kind in read_kinds(&packet, &answer, written.as_ref())? {
+                    *tally.kinds.entry(kind).or_default() += 1;
+                }
+            }
+            Some(Command::WritePacket(fields)) => {
+                let answer = wanted_line(&mut output)?;
+                for kind in write_kinds(&fields, &answer)? {
+                    *tally.kinds.entry(kind).or_default() += 1;
+                }
+                written = Some(fields);
             }
             Some(Command::CrcFrom { start, octets }) => {
                 let value = check_value(&wanted_line(&mut output)?)?;
@@ -193,7 +230,7 @@ fn count(mut input: impl BufRead, mut output: impl BufRead) -> io::Result<Tally>
                     return Err(io::Error::other("a bad line was not answered 0200"));
                 }
                 *tally.kinds.entry("bad line".into()).or_default() += 1;
-                if let Some(kind) = bad_kind(&line) {
+                for kind in bad_kind(&line).into_iter().chain(write_rows::bad_rows(&line)) {
                     *tally.kinds.entry(kind.into()).or_default() += 1;
                 }
             }
@@ -340,6 +377,92 @@ fn kinds(state: &State, packet: &[u8], verdict: &Verdict) -> Vec<String> {
         _ => String::new(),
     };
     vec![format!("refused {:2} {about}", verdict.number)]
+}
+
+/// The kinds that a packet counts for by its error control, which has to allow the verdict.
+fn control_kinds(packet: &[u8], refused: Option<Refusal>) -> io::Result<Vec<String>> {
+    control_rows::packet_rows(packet, refused)
+        .ok_or_else(|| io::Error::other("the answer of a packet is not that of its error control"))
+}
+
+/// The kind of an accepted check, whose report has to give the CRC of what the store holds.
+fn report_kind(state: &State, packet: &[u8], frames: &[u8]) -> io::Result<Option<String>> {
+    let blocks = named_blocks(state, packet, MemoryRequest::Check);
+    let (Some(method), false) = (control_rows::method(packet), blocks.is_empty()) else {
+        return Ok(None);
+    };
+    let mut due = application_data(packet)[..2].to_vec();
+    let mut differs = false;
+    for (block, octets) in blocks {
+        let held = state.store.get(octets).unwrap_or_default();
+        let value = bit_by_bit(START, held);
+        differs |= value != iso::weighted(held);
+        due.extend_from_slice(&block.start.to_be_bytes());
+        due.extend_from_slice(&block.length.to_be_bytes());
+        due.extend_from_slice(&value.to_be_bytes());
+    }
+    let written = hex::read(frames).unwrap_or_default();
+    let mut rest = written.as_slice();
+    while let Some((frame, behind)) = hexline::split_frame(rest) {
+        if frame.get(13..15) == Some(&[6, 10]) && frame.get(HEADER_OCTETS..) == Some(&due) {
+            return Ok(differs.then(|| control_rows::flagged(method, REPORTED)));
+        }
+        rest = behind;
+    }
+    Err(io::Error::other("a check report does not have the CRC of what the store holds"))
+}
+
+/// The kind of an accepted packet that the last W line wrote.
+fn served_kind(packet: &[u8], fields: Option<&WriteFields>) -> Option<String> {
+    let fields = fields.filter(|fields| write_rows::written(fields).is_some_and(|written| written == packet))?;
+    Some(control_rows::flagged(fields.method, SERVED))
+}
+
+/// The kinds that one R line counts for. Where it reads what the last W line wrote, it has to print the same fields.
+fn read_kinds(packet: &[u8], answer: &[u8], fields: Option<&WriteFields>) -> io::Result<Vec<String>> {
+    let [read, refused_by_2, refused_by_16, read_back] = READ;
+    let refused = read_refusal(answer).ok_or_else(|| io::Error::other("the answer of an R line has another form"))?;
+    if !control_rows::reader_may(packet, refused) {
+        return Err(io::Error::other("the answer of an R line is not that of the error control"));
+    }
+    let mut rows = match refused.map(|refusal| refusal.number) {
+        None => vec![read],
+        Some(refusal::ERROR_CONTROL) => vec![refused_by_2],
+        Some(refusal::HEADER) => vec![refused_by_16],
+        Some(_) => Vec::new(),
+    };
+    if let Some(fields) = fields.filter(|fields| write_rows::written(fields).is_some_and(|written| written == packet)) {
+        if answer != write_rows::read_back(fields) {
+            return Err(io::Error::other("what a W line wrote does not read back as its fields"));
+        }
+        rows.push(read_back);
+    }
+    let method = control_rows::method(packet).unwrap_or(Method::Crc);
+    Ok(rows.into_iter().map(|row| read_kind(method, row)).collect())
+}
+
+fn read_kind(method: Method, row: &str) -> String {
+    format!("R {}", control_rows::flagged(method, row))
+}
+
+/// The number and detail at the front of an R line's answer; of an accepted packet none.
+fn read_refusal(answer: &[u8]) -> Option<Option<Refusal>> {
+    let parts: Option<Vec<Vec<u8>>> = answer.split(|octet| *octet == b' ').map(hex::read).collect();
+    let parts = parts?;
+    let lengths: Vec<usize> = parts.iter().take(9).map(Vec::len).collect();
+    match parts.as_slice() {
+        [closing, detail, _, _, _, _, _, _, _, _] if lengths == [2, 2, 2, 2, 1, 1, 1, 1, 1] => match closing[..] {
+            [0, 0] if detail[..] == [0, 0] => Some(None),
+            [1, number] => Some(Some(Refusal { number, detail: u16::from_be_bytes([detail[0], detail[1]]) })),
+            _ => None,
+        },
+        _ => None,
+    }
+}
+
+/// The kinds that one W line counts for.
+fn write_kinds(fields: &WriteFields, answer: &[u8]) -> io::Result<Vec<String>> {
+    write_rows::rows(fields, answer).ok_or_else(|| io::Error::other("a W line does not print what it has to write"))
 }
 
 /// The kinds that the blocks of an accepted check count for.
@@ -627,6 +750,13 @@ fn wanted() -> Vec<String> {
         "refused  4 type 17 subtype unknown",
     ];
     wanted.extend(others.map(String::from));
+    wanted.extend(write_rows::BAD.map(String::from));
+    wanted.extend(control_rows::wanted());
+    wanted.extend(write_rows::wanted());
+    for method in control_rows::METHODS {
+        wanted.extend([REPORTED, SERVED].map(|row| control_rows::flagged(method, row)));
+        wanted.extend(READ.map(|row| read_kind(method, row)));
+    }
     wanted.extend(clauses::ALONE.map(only));
     wanted.extend(clauses::BOTH.map(both));
     wanted.push("V 00 more than one clause".into());

@@ -11,6 +11,7 @@ use second::program;
 use second::random::Random;
 use second::sample;
 use second::sample_bad_unit::{self, AIMS};
+use second::sample_control::Turns;
 use second::sample_line::{self, Bad, BAD};
 use second::sample_unit::{self, Stated, WAYS};
 
@@ -52,12 +53,13 @@ const SOUND_FOR_ONE_BAD_PACKET: usize = 4;
 /// One sound file in so many has no packet.
 const SOUND_FOR_ONE_WITHOUT_PACKETS: usize = 15;
 
-/// How many files of each kind there are already.
+/// How many files of each kind there are already, and what the error control of packets is to be.
 #[derive(Default)]
 struct Generator {
     sound: usize,
     unsound: usize,
     bad: usize,
+    controls: Turns,
 }
 
 fn main() -> ExitCode {
@@ -126,7 +128,7 @@ impl Generator {
         };
         let packets = match no_packet {
             true => vec![b'\n'; random.below(3) as usize],
-            false => packets(random, &stated.profile, bad_packet),
+            false => packets(random, &stated.profile, &mut self.controls, bad_packet),
         };
         (unit, packets)
     }
@@ -140,9 +142,9 @@ fn text(random: &mut Random, stated: &Stated) -> Vec<u8> {
 
 /// 20 to 60 lines of packets for the profile, empty lines among them, and a bad line in the middle if there is to be
 /// one.
-fn packets(random: &mut Random, profile: &Profile, bad: Option<Bad>) -> Vec<u8> {
+fn packets(random: &mut Random, profile: &Profile, controls: &mut Turns, bad: Option<Bad>) -> Vec<u8> {
     let count = random.between(20, 60);
-    let mut lines: Vec<Vec<u8>> = (0..count).map(|_| line(random, profile)).collect();
+    let mut lines: Vec<Vec<u8>> = (0..count).map(|_| line(random, profile, controls)).collect();
     if let Some(bad) = bad {
         let place = random.between(count / 4, count * 3 / 4) as usize;
         lines.insert(place, bad_line(random, profile, bad));
@@ -154,11 +156,12 @@ fn packets(random: &mut Random, profile: &Profile, bad: Option<Bad>) -> Vec<u8> 
     text
 }
 
-/// A packet of any kind, or an empty line.
-fn line(random: &mut Random, profile: &Profile) -> Vec<u8> {
+/// A packet of any kind, now and then the next way of error control, or an empty line.
+fn line(random: &mut Random, profile: &Profile, controls: &mut Turns) -> Vec<u8> {
     let packet = match random.below(40) {
         0..=2 => Vec::new(),
         3 => sample::longest_dump(random, profile),
+        4..=8 => controls.packet(random, profile),
         _ => sample::packet(random, profile),
     };
     sample_line::digits(random, &packet)

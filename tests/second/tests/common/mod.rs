@@ -15,6 +15,7 @@ use std::time::Duration;
 
 use second::crc::{crc, START};
 use second::hexline;
+use second::iso;
 use second::map::{Area, Flags, Profile, Rights};
 use second::refusal::Refusal;
 use second::terminal::{self, Answer, Verdict};
@@ -90,7 +91,7 @@ pub fn hex(text: &str) -> Vec<u8> {
     digits.chunks(2).map(|pair| (pair[0] * 16 + pair[1]) as u8).collect()
 }
 
-/// The octets and their error control after them.
+/// The octets and their CRC after them: right where the checksum flag is 1.
 pub fn sealed(text: &str) -> Vec<u8> {
     let mut octets = hex(text);
     let error_control = crc(START, &octets);
@@ -98,7 +99,15 @@ pub fn sealed(text: &str) -> Vec<u8> {
     octets
 }
 
-/// A packet for PID 5 with count 0, given ack, service, subtype and data.
+/// The octets and their ISO checksum after them, which is right where the checksum flag is 0; it is got by weights.
+pub fn sealed_by_iso(text: &str) -> Vec<u8> {
+    let mut octets = hex(text);
+    let error_control = iso::weighted(&octets);
+    octets.extend_from_slice(&error_control.to_be_bytes());
+    octets
+}
+
+/// A packet for PID 5 with count 0 and checksum flag 1, given ack, service, subtype and data.
 pub fn packet(ack: u8, service: u8, subtype: u8, data: &[u8]) -> Vec<u8> {
     let mut text = format!("185C C000 {:04X} {:02X} {service:02X} {subtype:02X} 00", data.len() + 5, 0x10 | ack);
     for octet in data {
@@ -110,6 +119,12 @@ pub fn packet(ack: u8, service: u8, subtype: u8, data: &[u8]) -> Vec<u8> {
 /// The same with the data as text.
 pub fn request(ack: u8, service: u8, subtype: u8, data: &str) -> Vec<u8> {
     packet(ack, service, subtype, &hex(data))
+}
+
+/// The same with checksum flag 0.
+pub fn request_by_iso(ack: u8, service: u8, subtype: u8, data: &str) -> Vec<u8> {
+    let length_field = hex(data).len() + 5;
+    sealed_by_iso(&format!("185C C000 {length_field:04X} {ack:02X} {service:02X} {subtype:02X} 00 {data}"))
 }
 
 pub fn area(memory_id: u8, start: u32, length: u32, first_word: u32) -> Area {

@@ -15,6 +15,9 @@ is-profile-requires-2 c κs = search needs
 is-buffer-requires : tie.Need-is-buffer-requires
 is-buffer-requires c κs = search needs
 
+is-order-requires : tie.Need-is-order-requires
+is-order-requires c κs = search needs
+
 returns : tie.Need-returns
 unfolding takes
 returns c = rw (c .before .match .keys1) (c .is-profile .ensures)
@@ -49,7 +52,7 @@ returns-8 c = rw (c .match .keys8)
 
 returns-9 : tie.Need-returns-9
 unfolding takes
-returns-9 c = rw (c .match .keys9)
+returns-9 c = rw (c .before .match .keys9) (c .is-order .ensures)
 
 returns-10 : tie.Need-returns-10
 unfolding takes
@@ -88,6 +91,7 @@ takes-spec =
     is-profile-requires
     is-profile-requires-2
     is-buffer-requires
+    is-order-requires
     returns
     returns-2
     returns-3

@@ -1,0 +1,3 @@
+pub mod Checksum
+pub mod Closing
+pub mod Vectors
