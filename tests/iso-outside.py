@@ -1,13 +1,13 @@
-"""iso-outside.py INPUT EXPECTED: lines `R packet` for the program `cases`, and what each has to print. No library has the
-ISO checksum of ECSS-E-70-41A's annex, so it is worked out here in another way than by its rule: the plain sum of the
-octets and their sum by weights, whole numbers both, and the modulus once at the end. Each packet with flag 0 stands there
-with a wrong error control, which has to be refused by 2 with the right value as detail, and with the right one.
+"""iso-outside.py INPUT EXPECTED: lines `R packet` for the program `cases`, and what each has to print. No library has
+the ISO checksum of ECSS-E-70-41A's annex, so it is worked out here in another way than by its rule: the plain sum of
+the octets and their sum by weights, whole numbers both, and the modulus once at the end. Each packet with flag 0 stands
+there with wrong error controls, which have to be refused by 2 with the right value as detail, and with the right one.
 
 There is every length from 12 to 248 octets, of any octets and of nothing but one octet; every value of an octet at each
-place of the header and at places of the data, the fields of check 16 among them, whose refusal comes behind that of the
-error control; every ack with both flags; values that have FF in the first octet, in the second and in both, with 00 in
-their place too; and the published vectors, each behind a header over which both sums are 0, so that the packet's value is
-the vector's own. With flag 1 the value is Python's own binascii.crc_hqx."""
+place of the header but the length field's and at places of the data, the fields of check 16 among them, whose refusal
+comes behind that of the error control; every ack with both flags; values that have FF in the first octet, in the second
+and in both, with 00 in their place too; and the published vectors, each behind a header over which both sums are 0, so
+that the packet's value is the vector's own. With flag 1 the value is Python's own binascii.crc_hqx."""
 
 import binascii
 import random
@@ -66,8 +66,8 @@ def read(body):
 
 
 def ask(body, *wrong):
-    """The packet with its right error control, with these wrong ones, and with the other method's and one of one octet
-    off."""
+    """The packet with its right error control, and with wrong ones: these, the other method's, one with an octet off
+    and the right one with its octets exchanged."""
     body = bytes(body)
     methods = [iso(body), crc(body)]
     right, other = methods if not body[FLAG_OCTET] & FLAG else methods[::-1]
@@ -75,7 +75,7 @@ def ask(body, *wrong):
     off[random.randrange(2)] ^= random.randrange(1, 256)
     detail = right.hex().upper()
     asked.append((f"R {body.hex()}{right.hex()}", read(body)))
-    for value in sorted({other, bytes(off), *wrong} - {right}):
+    for value in sorted({other, bytes(off), right[::-1], *wrong} - {right}):
         asked.append((f"R {body.hex()}{value.hex()}", refused(2, detail)))
     return detail
 

@@ -54,11 +54,11 @@ module _ (xs : List ℕ) where
   second = sent-of (sumsOf xs .c1 % modulus) (omega arith)
 
   -- The two octets of the checksum.
-  pub iso-high : isoOf xs / 256 ≡ ck1 (sumsOf xs)
+  iso-high : isoOf xs / 256 ≡ ck1 (sumsOf xs)
   unfolding isoOf
   iso-high = omega (arith, second .0 .1)
 
-  pub iso-low : isoOf xs % 256 ≡ ck2 (sumsOf xs)
+  iso-low : isoOf xs % 256 ≡ ck2 (sumsOf xs)
   unfolding isoOf
   iso-low = omega (arith, second .0 .1)
 

@@ -354,7 +354,7 @@ fn generated_lines_have_every_way() {
         let mut unit = Unit::new();
         let mut reached = BTreeSet::new();
         let digits = |line: &&str| {
-            line.len() <= 4_096 && line.len() % 2 == 0 && line.bytes().all(|digit| digit.is_ascii_hexdigit())
+            line.len() <= 4_096 && line.len().is_multiple_of(2) && line.bytes().all(|digit| digit.is_ascii_hexdigit())
         };
         for packet in text.lines().filter(digits).map(hex) {
             let refused = match unit.send(&packet).verdict {
