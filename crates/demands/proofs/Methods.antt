@@ -2,13 +2,12 @@
 -- Assumes nothing.
 use mathlib.Core.Path.{_≡_, refl, sym, ap, _∙_}
 use mathlib.Core.Bool.{true, false, false≢true}
-use mathlib.Core.List.{List, [], _∷_, _++_}
+use mathlib.Core.List.{List, [], _∷_, _++_, map}
 use Prim.Native.Nat.{ℕ, _+_, _-_, _/_, _%_, _≤_, _<_}
 use native.Mathlib.Omega.{arith}
 use lib.ListN.{length, take-append-drop}
 use lib.Dec.{eqb}
 use borrow.Author.Tests.{eq-eqb, eqb-true}
-use Rattle.laws.specs.Each.{Each}
 use Rattle.laws.proofs.Tests.{by-test}
 use Rattle.octets.specs.Numbers.{Octets, octet, word16}
 use Rattle.octets.proofs.Words.{last-two}
@@ -27,10 +26,12 @@ use Rattle.heading.specs.Heading.{lengthRight, headerFault}
 use Rattle.heading.proofs.Lengths.{length-least}
 use Rattle.reader.specs.Reader.{controlRight, judged, readingOf}
 use Rattle.reader.proofs.Judged.{judged-control, judged-header, judged-accepted}
+use Rattle.terminal.specs.Outcome.{verdictOn}
 use Rattle.demands.specs.Packets.{Reader, referenceReader}
 use Rattle.demands.specs.Refusing.{Given}
-use Rattle.demands.specs.Listing.{Holds}
-use Rattle.demands.specs.Methods.{Summed, RightBy, Right, ByMethod, IgnoresFlag, LetsZeroPass, summed, firstFF, methodListing}
+use Rattle.demands.specs.Cases.{from, lineInput}
+use Rattle.demands.specs.Listing.{told}
+use Rattle.demands.specs.Methods.{Summed, RightBy, Right, ByMethod, IgnoresFlag, LetsZeroPass, summed, firstFF, packets, verdicts}
 use Rattle.demands.proofs.Computing.{all}
 
 -- ---- what is right, and the value of a method
@@ -99,7 +100,7 @@ unfolding all total weighted
 ignoring-flag-fails read ignores by =
     let o : Octets summed = octets-of summed (omega arith, (omega arith, (omega arith, (omega arith, (omega arith, (omega arith, (omega arith, (omega arith, (omega arith, (omega arith, (omega arith, (omega arith, tt)))))))))))) in
     let r : Right summed = record { first = (omega arith, omega arith); second = (omega arith, omega arith); sums = (refl, refl) } in
-    omega (arith, ignores summed (by .only summed o refl r))
+    omega (arith, ignores summed refl (by .only summed o refl r))
 
 -- The packet whose sums are 0 with a 00 in the place of an FF.
 pub zero-passing-fails : (read : Reader) → LetsZeroPass read → ByMethod read → ⊥
@@ -107,12 +108,12 @@ unfolding all total weighted
 zero-passing-fails read lets by =
     let p : List ℕ = firstFF 0x00 in
     let o : Octets p = octets-of p (omega arith, (omega arith, (omega arith, (omega arith, (omega arith, (omega arith, (omega arith, (omega arith, (omega arith, (omega arith, (omega arith, (omega arith, tt)))))))))))) in
-    let r : Summed p = by .else-right p o refl (lets p (refl, refl)) in
+    let r : Summed p = by .else-right p o refl (lets p refl (refl, refl)) in
     omega (arith, r .first .0)
 
 -- ---- examples
 
 -- Ruled out: any definition that gives another verdict or detail on one of them.
-pub methods-hold : Each Holds methodListing
-unfolding methodListing all
-methods-hold = (refl, (refl, (refl, (refl, (refl, (refl, tt))))))
+pub methods-hold : map (λ (p : List ℕ). told (verdictOn (lineInput (from 0 0) p))) packets ≡ verdicts
+unfolding all
+methods-hold = refl

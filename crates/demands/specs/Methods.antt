@@ -12,11 +12,8 @@ use Rattle.tc.specs.declared.Method.{Method}
 use Rattle.tc.specs.declared.Method.the-variants.{Iso, Crc}
 use Rattle.tc.specs.Layout.{methodOf, covered, fieldsOf}
 use Rattle.heading.specs.Heading.{lengthRight}
-use Rattle.terminal.specs.Outcome.{verdictOn}
 use Rattle.demands.specs.Packets.{Reader}
 use Rattle.demands.specs.Refusing.{Given}
-use Rattle.demands.specs.Cases.{from, lineInput}
-use Rattle.demands.specs.Listing.{Held, held, told}
 
 -- ---- the rule
 
@@ -42,13 +39,13 @@ pub record ByMethod (read : Reader) : Type 0 where
 
 -- ---- wrong readers
 
--- Takes the CRC whatever the flag is.
+-- Takes the CRC whatever the flag is: of the packets that pass check 1, those that end in it alone are not refused by 2.
 abbrev pub IgnoresFlag : Reader → Type 0
-IgnoresFlag read = (p : List ℕ) → (Given 2 (read p .verdict) → ⊥) → word16 p (length p - 2) ≡ crcOf (covered p)
+IgnoresFlag read = (p : List ℕ) → lengthRight p ≡ true → (Given 2 (read p .verdict) → ⊥) → word16 p (length p - 2) ≡ crcOf (covered p)
 
--- Asks for sums of 0 and for nothing else, so that a 00 passes for FF.
+-- With flag 0 it asks for sums of 0 and for nothing else, so that a 00 passes for FF.
 abbrev pub LetsZeroPass : Reader → Type 0
-LetsZeroPass read = (p : List ℕ) → BothZero p → Given 2 (read p .verdict) → ⊥
+LetsZeroPass read = (p : List ℕ) → fieldsOf p .checksum ≡ 0 → BothZero p → Given 2 (read p .verdict) → ⊥
 
 -- ---- examples
 
@@ -66,13 +63,9 @@ firstFF x = 0x18 ∷ 0x5C ∷ 0xC0 ∷ 0x40 ∷ 0x00 ∷ 0x05 ∷ 0x09 ∷ 0x11 
 abbrev pub secondFF : ℕ → List ℕ
 secondFF x = 0x18 ∷ 0x5C ∷ 0xC0 ∷ 0xE7 ∷ 0x00 ∷ 0x05 ∷ 0x09 ∷ 0x11 ∷ 0x01 ∷ 0x00 ∷ 0xC2 ∷ x ∷ []
 
--- The line program's verdicts on them.
-unfoldable pub methodListing : List Held
-methodListing =
-    held 2 (told (verdictOn (lineInput (from 0 0) summed))) []
-    ∷ held 2 (told (verdictOn (lineInput (from 0 0) divided))) (2 ∷ 0x02A8 ∷ [])
-    ∷ held 2 (told (verdictOn (lineInput (from 0 0) (firstFF 0xFF)))) []
-    ∷ held 2 (told (verdictOn (lineInput (from 0 0) (firstFF 0x00)))) (2 ∷ 0xFF6A ∷ [])
-    ∷ held 2 (told (verdictOn (lineInput (from 0 0) (secondFF 0xFF)))) []
-    ∷ held 2 (told (verdictOn (lineInput (from 0 0) (secondFF 0x00)))) (2 ∷ 0xC2FF ∷ [])
-    ∷ []
+abbrev pub packets : List (List ℕ)
+packets = summed ∷ divided ∷ firstFF 0xFF ∷ firstFF 0x00 ∷ secondFF 0xFF ∷ secondFF 0x00 ∷ []
+
+-- What the line program tells of each: a refusal's number and detail, and nothing where it accepts.
+abbrev pub verdicts : List (List ℕ)
+verdicts = [] ∷ (2 ∷ 0x02A8 ∷ []) ∷ [] ∷ (2 ∷ 0xFF6A ∷ []) ∷ [] ∷ (2 ∷ 0xC2FF ∷ []) ∷ []
