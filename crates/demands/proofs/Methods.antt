@@ -31,7 +31,7 @@ use Rattle.demands.specs.Packets.{Reader, referenceReader}
 use Rattle.demands.specs.Refusing.{Given}
 use Rattle.demands.specs.Cases.{from, lineInput}
 use Rattle.demands.specs.Listing.{told}
-use Rattle.demands.specs.Methods.{Summed, RightBy, Right, ByMethod, IgnoresFlag, LetsZeroPass, summed, firstFF, packets, verdicts}
+use Rattle.demands.specs.Methods.{Summed, RightBy, Right, ByMethod, IgnoresFlag, LetsZeroPass, connection, packets, verdicts}
 use Rattle.demands.proofs.Computing.{all}
 
 -- ---- what is right, and the value of a method
@@ -94,20 +94,26 @@ reader-by-method = record {
 
 -- ---- wrong readers
 
+connection-octets : (count a b : ℕ) → count < 256 → a < 256 → b < 256 → Octets (connection count a b)
+connection-octets count a b h i j =
+    octets-of (connection count a b)
+    (omega arith, (omega arith, (omega arith, (h, (omega arith, (omega arith, (omega arith, (omega arith, (omega arith, (omega arith, (i, (j, tt))))))))))))
+
 -- The packet that the CRC alone refuses.
 pub ignoring-flag-fails : (read : Reader) → IgnoresFlag read → ByMethod read → ⊥
 unfolding all total weighted
 ignoring-flag-fails read ignores by =
-    let o : Octets summed = octets-of summed (omega arith, (omega arith, (omega arith, (omega arith, (omega arith, (omega arith, (omega arith, (omega arith, (omega arith, (omega arith, (omega arith, (omega arith, tt)))))))))))) in
-    let r : Right summed = record { first = (omega arith, omega arith); second = (omega arith, omega arith); sums = (refl, refl) } in
-    omega (arith, ignores summed refl (by .only summed o refl r))
+    let p : List ℕ = connection 0 0x02 0xA8 in
+    let o : Octets p = connection-octets 0 0x02 0xA8 (omega arith) (omega arith) (omega arith) in
+    let r : Right p = record { first = (omega arith, omega arith); second = (omega arith, omega arith); sums = (refl, refl) } in
+    omega (arith, ignores p refl (by .only p o refl r))
 
 -- The packet whose sums are 0 with a 00 in the place of an FF.
 pub zero-passing-fails : (read : Reader) → LetsZeroPass read → ByMethod read → ⊥
 unfolding all total weighted
 zero-passing-fails read lets by =
-    let p : List ℕ = firstFF 0x00 in
-    let o : Octets p = octets-of p (omega arith, (omega arith, (omega arith, (omega arith, (omega arith, (omega arith, (omega arith, (omega arith, (omega arith, (omega arith, (omega arith, (omega arith, tt)))))))))))) in
+    let p : List ℕ = connection 64 0x00 0x6A in
+    let o : Octets p = connection-octets 64 0x00 0x6A (omega arith) (omega arith) (omega arith) in
     let r : Summed p = by .else-right p o refl (lets p refl (refl, refl)) in
     omega (arith, r .first .0)
 

@@ -49,22 +49,17 @@ LetsZeroPass read = (p : List ℕ) → fieldsOf p .checksum ≡ 0 → BothZero p
 
 -- ---- examples
 
--- The connection test of document 01's first line with flag 0: with its ISO checksum, and with the CRC.
-abbrev pub summed : List ℕ
-summed = 0x18 ∷ 0x5C ∷ 0xC0 ∷ 0x00 ∷ 0x00 ∷ 0x05 ∷ 0x09 ∷ 0x11 ∷ 0x01 ∷ 0x00 ∷ 0x02 ∷ 0xA8 ∷ []
+-- The connection test of document 01's first line, but with checksum flag 0, a count of one octet, and two octets of error control.
+abbrev pub connection : ℕ → ℕ → ℕ → List ℕ
+connection count a b = 0x18 ∷ 0x5C ∷ 0xC0 ∷ count ∷ 0x00 ∷ 0x05 ∷ 0x09 ∷ 0x11 ∷ 0x01 ∷ 0x00 ∷ a ∷ b ∷ []
 
-abbrev pub divided : List ℕ
-divided = 0x18 ∷ 0x5C ∷ 0xC0 ∷ 0x00 ∷ 0x00 ∷ 0x05 ∷ 0x09 ∷ 0x11 ∷ 0x01 ∷ 0x00 ∷ 0x1A ∷ 0xC0 ∷ []
-
--- The same with count 64, whose checksum has an FF in its first octet, and with count 231, where it has one in the second; each with FF, and with 00 in its place.
-abbrev pub firstFF : ℕ → List ℕ
-firstFF x = 0x18 ∷ 0x5C ∷ 0xC0 ∷ 0x40 ∷ 0x00 ∷ 0x05 ∷ 0x09 ∷ 0x11 ∷ 0x01 ∷ 0x00 ∷ x ∷ 0x6A ∷ []
-
-abbrev pub secondFF : ℕ → List ℕ
-secondFF x = 0x18 ∷ 0x5C ∷ 0xC0 ∷ 0xE7 ∷ 0x00 ∷ 0x05 ∷ 0x09 ∷ 0x11 ∷ 0x01 ∷ 0x00 ∷ 0xC2 ∷ x ∷ []
-
+-- With its ISO checksum, and with its CRC; with count 64, whose checksum has an FF in its first octet, and with count 231, where it has one in the second: each as it is, and with 00 in the place of the FF.
 abbrev pub packets : List (List ℕ)
-packets = summed ∷ divided ∷ firstFF 0xFF ∷ firstFF 0x00 ∷ secondFF 0xFF ∷ secondFF 0x00 ∷ []
+packets =
+    connection 0 0x02 0xA8 ∷ connection 0 0x1A 0xC0
+    ∷ connection 64 0xFF 0x6A ∷ connection 64 0x00 0x6A
+    ∷ connection 231 0xC2 0xFF ∷ connection 231 0xC2 0x00
+    ∷ []
 
 -- What the line program tells of each: a refusal's number and detail, and nothing where it accepts.
 abbrev pub verdicts : List (List ℕ)
