@@ -34,7 +34,7 @@ use Rattle.requests.specs.Request.{serves, offers, rightFor, carriedBy, areaNam
 use Rattle.decide.specs.Table.{outLeast, callerRight, callerRows, rows, decided, decisionOf}
 use Rattle.serving.specs.Services.{hasRight, allInside, areaRows, memoryRows, memoryTask, Formed, FormedFor}
 use Rattle.addressing.specs.Requested.{serviceRows, taskFor, askedBy, requestRows}
-use Rattle.decide.proofs.Checked.{decision-decided, at-buffer, at-caller, at-reader}
+use Rattle.decide.proofs.Checked.{decision-decided, at-buffer, at-caller, at-packet, at-reader}
 
 -- ---- check 41, part by part
 
@@ -73,7 +73,7 @@ module _ (p : Profile) (state : State) (octets room : ℕ) (packet : List ℕ) w
       (λ six. record { out = leb-true _ _ long; six = leb-true _ _ six; caller = caller-facts p state octets right })
       (λ few.
       let short = judged-short packet (leb-false _ _ few) in
-      contradicts _ (ap silent short) (at-reader p state octets room packet (leb-true _ _ long) right (readingOf packet) refl (ap isAccepted short)) heard))
+      contradicts _ (ap silent short) (at-reader p packet (readingOf packet) refl (ap isAccepted short) ∙ sym (at-packet p state octets room packet (leb-true _ _ long) right)) heard))
       (λ wrong. contradicts _ refl (sym (at-caller p state octets room packet (leb-true _ _ long) wrong)) heard))
       (λ less. contradicts _ refl (sym (at-buffer p state octets room packet (leb-false _ _ less))) heard)
 

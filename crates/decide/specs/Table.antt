@@ -38,10 +38,13 @@ callerRows p state store out =
 
 -- ---- the whole table
 
--- All of them: 40 and 41, the reader's 42, 1, 2 and 16, then 0, 3, 4 and those of the service asked.
+-- Those on the packet itself: the reader's 42, 1, 2 and 16, then 0, 3, 4 and those of the service asked.
+abbrev pub packetRows : Profile → List ℕ → List (Row Refusal)
+packetRows p packet = readerRows packet ++ requestRows p (fieldsOf packet) (applicationOf packet)
+
+-- All of them: 40 and 41, and then those on the packet.
 unfoldable pub rows : Profile → State → ℕ → ℕ → List ℕ → List (Row Refusal)
-rows p state store out packet =
-    callerRows p state store out ++ (readerRows packet ++ requestRows p (fieldsOf packet) (applicationOf packet))
+rows p state store out packet = callerRows p state store out ++ packetRows p packet
 
 -- The verdict on a packet.
 unfoldable pub decided : Profile → State → ℕ → ℕ → List ℕ → Verdict
@@ -51,7 +54,14 @@ decided p state store out packet = verdictBy (rows p state store out packet)
 abbrev pub taskOf : Profile → List ℕ → Task
 taskOf p packet = taskFor p (askedBy (fieldsOf packet)) (applicationOf packet)
 
+-- The acceptance of a packet, with what was found on the way to it.
+abbrev pub accepting : Profile → List ℕ → Decision
+accepting p packet = acceptedWith (taskOf p packet) (fieldsOf packet .ack) (dataSpan packet)
+
+-- The decision on a packet by the checks on the packet itself.
+unfoldable pub packetDecision : Profile → List ℕ → Decision
+packetDecision p packet = decidedBy (accepting p packet) (packetRows p packet)
+
 -- The decision on a packet: the verdict, and what was found on the way to acceptance.
 unfoldable pub decisionOf : Profile → State → ℕ → ℕ → List ℕ → Decision
-decisionOf p state store out packet =
-    decidedBy (acceptedWith (taskOf p packet) (fieldsOf packet .ack) (dataSpan packet)) (rows p state store out packet)
+decisionOf p state store out packet = decidedBy (accepting p packet) (rows p state store out packet)

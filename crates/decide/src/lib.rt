@@ -4,7 +4,7 @@ use counts::Counts;
 use map::Profile;
 use serving::Decision;
 ghost use mathlib.Core.Path.{_≡_};
-ghost use Rattle.decide.specs.Table.{callerRight, decisionOf};
+ghost use Rattle.decide.specs.Table.{callerRight, packetDecision, decisionOf};
 
 // What goes from packet to packet besides the store.
 pub struct State {
@@ -14,7 +14,7 @@ pub struct State {
 // The fewest octets of an output buffer.
 const OUT_LEAST: usize = 4096;
 
-// The decision on a packet: 40, 41, the reader's checks, and then those of what the packet asks for.
+// The decision on a packet: 40, 41, and then the checks on the packet itself.
 pub fn decide(profile: Profile, state: State, store: usize, out: usize, packet: &[u8]) -> Decision
     ensures { λ r. ⌜ r ≡ decisionOf profile state store out (now (packet .entry)) ⌝ }
 {
@@ -24,6 +24,13 @@ pub fn decide(profile: Profile, state: State, store: usize, out: usize, packet: 
     if !caller_right(profile, state, store) {
         return serving::refuse(Check::Caller, 0);
     }
+    decide_packet(profile, packet)
+}
+
+// The decision by the checks on the packet itself: the reader's, and then those of what the packet asks for.
+pub fn decide_packet(profile: Profile, packet: &[u8]) -> Decision
+    ensures { λ r. ⌜ r ≡ packetDecision profile (now (packet .entry)) ⌝ }
+{
     let reading = reader::read(packet);
     let verdict = reading.verdict;
     if !checks::accepted(verdict) {

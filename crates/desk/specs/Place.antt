@@ -1,5 +1,5 @@
 -- What goes from line to line in a program over lines: its desk, the store and the output buffer.
-use mathlib.Core.Bool.{Bool, not}
+use mathlib.Core.Bool.{Bool, true, not}
 use mathlib.Core.List.{List}
 use Prim.Native.Nat.{ℕ}
 use lib.Dec.{eqb}
@@ -8,6 +8,7 @@ use Rattle.map.specs.declared.Profile.{Profile}
 use Rattle.counts.specs.Counts.{noCounts}
 use Rattle.decide.specs.declared.State.{State}
 use Rattle.unit.specs.declared.Draft.{Draft}
+use Rattle.lineunit.specs.Unit.{lineProfile}
 use Rattle.hexline.specs.Line.{Station}
 use Rattle.packline.specs.declared.Halt.{Halt}
 use Rattle.packline.specs.Record.{goesOn}
@@ -28,6 +29,10 @@ placeOf desk store out = record { desk = desk; store = now store; out = now out 
 -- A desk before the first line: counts of 0, no line passed, no group, nothing that stops the program.
 abbrev pub deskFor : Draft → Desk
 deskFor draft = record { draft = draft; state = record { counts = noCounts }; number = 0; group = noGroup; halt = goesOn }
+
+-- The line program's unit, all of it stated: its profile, and a store of 128 octets.
+abbrev pub lineDraft : Draft
+lineDraft = record { profile = lineProfile; pid = true; services = true; store = true; stored = 128 }
 
 -- The profile, and what the terminal works on.
 abbrev pub profileAt : Place → Profile

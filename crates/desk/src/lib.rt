@@ -8,8 +8,11 @@ ghost use mathlib.Core.Path.{_≡_};
 ghost use Prim.Native.Nat.{min, _+_};
 ghost use lib.ListN.{length};
 ghost use Rattle.packline.specs.Record.{goesOn};
-ghost use Rattle.desk.specs.Place.{deskFor, withDraft, withState, withGroup, isHalted};
+ghost use Rattle.desk.specs.Place.{deskFor, lineDraft, withDraft, withState, withGroup, isHalted};
 ghost use Rattle.desk.specs.Place.{counted as Counted, halting as Halting};
+
+// How many octets the line program's store has.
+pub const LINE_STORE: usize = 128;
 
 // What goes from line to line beside the store and the output buffer: the unit, the counts, how many lines are passed, the group of a record, and what stops the program.
 pub struct Desk {
@@ -50,6 +53,20 @@ pub fn start(draft: Draft) -> Desk
         group: grouping::start(),
         halt: goes_on(),
     }
+}
+
+// The line program's unit before the first line.
+pub fn line_start() -> Desk
+    ensures { λ r. ⌜ r ≡ deskFor lineDraft ⌝ }
+{
+    let draft = Draft {
+        profile: lineunit::profile(),
+        pid: true,
+        services: true,
+        store: true,
+        stored: LINE_STORE,
+    };
+    start(draft)
 }
 
 // Whether the program has stopped.

@@ -1,3 +1,3 @@
 pub mod Streaming
 pub mod Lined
-pub mod Framed
+pub mod Alone

@@ -7,7 +7,7 @@ use native.Mathlib.Omega.{arith}
 use denote.Ref.{now}
 use Rattle.laws.proofs.Tests.{refused, passed}
 use Rattle.decide.specs.Table.{outLeast, callerRight}
-use Rattle.decide.proofs.Checked.{at-buffer, at-caller, at-reader, at-request}
+use Rattle.decide.proofs.Checked.{at-buffer, at-caller, at-packet}
 use borrow.Author.Needs.{needs}
 use Rattle.decide.proofs.decide.Statement.{statement}
 use Rattle.decide.proofs.decide.Tie as tie
@@ -41,33 +41,15 @@ returns-2 c =
     c .refuse2 .ensures
     ∙ sym (at-caller (s .profile) (s .state) (s .store) (s .out) (now (s .packet)) (room (r .before)) (refused (r .caller-right .ensures) (c .before .if2 .taken)))
 
-read-requires : tie.Need-read-requires
-read-requires c κs = search needs
-
-accepted-requires : tie.Need-accepted-requires
-accepted-requires c κs = search needs
-
-refused-requires : tie.Need-refused-requires
-refused-requires c κs = search needs
+decide-packet-requires : tie.Need-decide-packet-requires
+decide-packet-requires c κs = search needs
 
 returns-3 : tie.Need-returns-3
 returns-3 c =
-    let a = c .before .before in
-    let e = a .before .before in
+    let e = c .before in
     let s = e .before .before .before .before .args in
-    c .refused .ensures
-    ∙ at-reader (s .profile) (s .state) (s .store) (s .out) (now (s .packet)) (room (e .before .before)) (right e) (a .before .read .result) (a .before .read .ensures) (refused (a .accepted .ensures) (c .before .if3 .taken))
-
-judge-request-requires : tie.Need-judge-request-requires
-judge-request-requires c κs = search needs
-
-returns-4 : tie.Need-returns-4
-returns-4 c =
-    let a = c .before .before in
-    let e = a .before .before in
-    let s = e .before .before .before .before .args in
-    at-request (s .profile) (s .state) (s .store) (s .out) (now (s .packet)) (room (e .before .before)) (right e) (a .before .read .result) (c .judge-request .result) (a .before .read .ensures)
-    (passed (a .accepted .ensures) (c .before .if3 .left)) (c .judge-request .ensures)
+    c .decide-packet .ensures
+    ∙ sym (at-packet (s .profile) (s .state) (s .store) (s .out) (now (s .packet)) (room (e .before .before)) (right e))
 
 pub decide-spec : {M : Type 1} → statement M
 decide-spec =
@@ -78,9 +60,5 @@ decide-spec =
     caller-right-requires
     refuse-requires-2
     returns-2
-    read-requires
-    accepted-requires
-    refused-requires
-    returns-3
-    judge-request-requires
-    returns-4)
+    decide-packet-requires
+    returns-3)
