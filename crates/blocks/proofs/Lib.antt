@@ -1,4 +1,5 @@
 pub mod Blocks
 pub mod Walk
+pub mod Behind
 pub mod WellFormed
 pub mod Octets

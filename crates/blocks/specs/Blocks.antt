@@ -27,6 +27,11 @@ blocksFrom carried application zero place = []
 blocksFrom carried application (suc n) place =
     blockAt carried application place ∷ blocksFrom carried application n (blockAt carried application place .next)
 
+-- The block behind so many others: the first stands behind the memory ID and N, any other where the one before it ends.
+unfoldable pub blockBehind : ℕ → List ℕ → ℕ → Block
+blockBehind carried application zero = blockAt carried application firstPlace
+blockBehind carried application (suc n) = blockAt carried application (blockBehind carried application n .next)
+
 -- The memory ID, the first octet.
 abbrev pub memoryId : List ℕ → ℕ
 memoryId application = octet application 0

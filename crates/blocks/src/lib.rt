@@ -24,7 +24,7 @@ pub enum Form {
 pub const FIRST: usize = 2;
 
 // The octets of a block's start and length.
-const HEADER: usize = 6;
+pub const HEADER: usize = 6;
 
 // The most blocks.
 pub const BLOCKS_MOST: u16 = 8;

@@ -1,8 +1,9 @@
 // A block of service 6 data read at its place, and the words that it carries.
 ghost use mathlib.Core.Path.{_≡_};
 ghost use Prim.Native.Nat.{min};
-ghost use Rattle.blocks.specs.Blocks.{blockAt, memoryId, blockCount, wordsOf};
+ghost use Rattle.blocks.specs.Blocks.{blockAt, blockBehind, memoryId, blockCount, wordsOf};
 use super::Block;
+use super::FIRST;
 use super::HEADER;
 
 // The memory ID, the first octet.
@@ -34,6 +35,19 @@ pub fn block_at(carried: u8, application: &[u8], place: usize) -> Block
         words,
         next,
     }
+}
+
+// The block behind so many others: the first stands behind the memory ID and N, any other where the one before it ends.
+pub fn block_behind(carried: u8, application: &[u8], others: u16) -> Block
+    ensures { λ r. ⌜ r ≡ blockBehind carried (now (application .entry)) others ⌝ }
+{
+    let mut block = block_at(carried, application, FIRST);
+    let mut i: u16 = 0;
+    while i < others {
+        block = block_at(carried, application, block.next);
+        i += 1;
+    }
+    block
 }
 
 // A place, and the end where the place lies past it.

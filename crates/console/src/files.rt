@@ -9,14 +9,17 @@ const NAME_ROOM: usize = 4096;
 // The name of a file.
 type Name = [u8; NAME_ROOM];
 
-// How many arguments there are at the most, the program's own name among them.
-const ARGUMENTS: usize = 3;
-
 // Whether both files are open, and their descriptors.
 pub struct Files {
     pub open: bool,
     pub unit: i32,
     pub input: i32,
+}
+
+// Whether a unit is given, and the files.
+pub struct Choice {
+    pub given: bool,
+    pub files: Files,
 }
 
 // A file that is open, standard input among them, or one that is not.
@@ -97,37 +100,95 @@ fn argument(name: &[u8], at: usize) -> Opened {
     named(name, &path[..count])
 }
 
-// The files of a program that takes a unit and its input, which is standard input where it is left out. What is wrong is said.
-pub fn unit_and_input(name: &[u8], usage: &[u8]) -> Files {
-    let closed = Files {
+// The input that an argument names, of so many arguments, and standard input where it is left out.
+fn input_at(name: &[u8], at: usize, count: usize) -> Opened {
+    if count <= at {
+        return standard();
+    }
+    argument(name, at)
+}
+
+// No file is open: what is wrong is said before.
+fn closed() -> Files {
+    Files {
         open: false,
         unit: STDIN_FILENO,
         input: STDIN_FILENO,
-    };
-    let count = os::arg_count();
-    if count < 2 || ARGUMENTS < count {
-        fail(name, usage);
-        return closed;
     }
-    let unit = argument(name, 1);
+}
+
+// The unit that an argument names, and the input that another does, of so many arguments.
+fn both(name: &[u8], unit_at: usize, at: usize, count: usize) -> Files {
+    let unit = argument(name, unit_at);
     if !unit.open {
-        return closed;
+        return closed();
     }
-    let input = if count < ARGUMENTS {
-        standard()
-    } else {
-        argument(name, 2)
-    };
+    let input = input_at(name, at, count);
     if !input.open {
-        return closed;
+        return closed();
     }
     if unit.standard && input.standard {
         fail(name, b": standard input cannot be both files\n");
-        return closed;
+        return closed();
     }
     Files {
         open: true,
         unit: unit.file,
         input: input.file,
+    }
+}
+
+// The files of a program that takes a unit and its input, which is standard input where it is left out. What is wrong is said.
+pub fn unit_and_input(name: &[u8], usage: &[u8]) -> Files {
+    let count = os::arg_count();
+    if count < 2 || 3 < count {
+        fail(name, usage);
+        return closed();
+    }
+    both(name, 1, 2, count)
+}
+
+// Whether the first argument is the option that names a unit.
+fn is_option() -> bool {
+    let mut word = [0u8; NAME_ROOM];
+    let count = os::arg(1, &mut word);
+    words::same(&word[..count], b"--unit")
+}
+
+// The files of a program whose first argument is the option, of so many arguments.
+fn behind_option(name: &[u8], usage: &[u8], count: usize) -> Files {
+    if count < 3 || 4 < count {
+        fail(name, usage);
+        return closed();
+    }
+    both(name, 2, 3, count)
+}
+
+// The files of a program that is given no unit, of so many arguments.
+fn input_alone(name: &[u8], usage: &[u8], count: usize) -> Files {
+    if 2 < count {
+        fail(name, usage);
+        return closed();
+    }
+    let input = input_at(name, 1, count);
+    Files {
+        open: input.open,
+        unit: STDIN_FILENO,
+        input: input.file,
+    }
+}
+
+// The files of a program that takes its input, and with the option `--unit` before it a unit. What is wrong is said.
+pub fn optional_unit(name: &[u8], usage: &[u8]) -> Choice {
+    let count = os::arg_count();
+    if 1 < count && is_option() {
+        return Choice {
+            given: true,
+            files: behind_option(name, usage, count),
+        };
+    }
+    Choice {
+        given: false,
+        files: input_alone(name, usage, count),
     }
 }

@@ -1,3 +1,4 @@
 pub mod Checked
 pub mod Decided
 pub mod Details
+pub mod Numbered

@@ -6,6 +6,8 @@ use serving::Decision;
 ghost use mathlib.Core.Path.{_≡_};
 ghost use Rattle.decide.specs.Table.{callerRight, packetDecision, decisionOf};
 
+pub mod looks;
+
 // What goes from packet to packet besides the store.
 pub struct State {
     pub counts: Counts,

@@ -7,6 +7,8 @@ pub mod Determined
 pub mod Determines
 pub mod Largest
 pub mod Methods
+pub mod Looking
+pub mod Explaining
 pub mod Numbered
 pub mod Numbers
 pub mod Parting

@@ -10,3 +10,4 @@ pub mod Listing
 pub mod Methods
 pub mod Parting
 pub mod Telemetry
+pub mod Explaining

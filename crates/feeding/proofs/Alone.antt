@@ -16,9 +16,11 @@ use Rattle.packetline.specs.Packet.{lineMost}
 use Rattle.hexline.specs.Whole.{answerRoom}
 use Rattle.frameline.specs.Line.{frameSays, framesOutput}
 use Rattle.frameline.proofs.Lines.{says-bad-long}
+use Rattle.explainline.specs.Line.{explainSays, explainOutput}
+use Rattle.explainline.proofs.Lines.{explain-long}
 use Rattle.tasks.specs.declared.Task.{Task}
-use Rattle.tasks.specs.declared.Task.the-variants.{Frames}
-use Rattle.desk.specs.Place.{Place, atDesk}
+use Rattle.tasks.specs.declared.Task.the-variants.{Frames, Explain}
+use Rattle.desk.specs.Place.{Place, atDesk, profileAt}
 use Rattle.tasks.specs.Tasks.{taskSays, taskBecomes, taskLongSays, taskLongDesk, taskProgram}
 use Rattle.feeding.specs.Feed.{pieceProgram}
 use Rattle.feeding.proofs.Streaming.{stream-whole}
@@ -65,3 +67,10 @@ pub stream-frames : (room n : ℕ) (m : Place) (parts : List (List ℕ)) → ans
     s .said ++ lastSays (pieceProgram Frames) (s .after) (s .begins) (s .left) ≡ framesOutput (joined parts))
 stream-frames room n m parts r h =
     stream-alone Frames m frameSays (λ line. refl) (λ line more. sym (says-bad-long line more)) (λ line. refl) refl room n parts r h
+
+-- `explain`, under the profile of the desk's unit.
+pub stream-explain : (room n : ℕ) (m : Place) (parts : List (List ℕ)) → answerRoom ≤ room → length (joined parts) < n
+    → (let s : Turn Place = turnsOf (pieceProgram Explain) room true m true [] (parts ++ replicate n []) in
+    s .said ++ lastSays (pieceProgram Explain) (s .after) (s .begins) (s .left) ≡ explainOutput (profileAt m) (joined parts))
+stream-explain room n m parts r h =
+    stream-alone Explain m (explainSays (profileAt m)) (λ line. refl) (λ line more. sym (explain-long (profileAt m) line more)) (λ line. refl) refl room n parts r h

@@ -22,7 +22,7 @@ use Rattle.map.specs.Sound.{storeMost}
 use Rattle.hexline.specs.Whole.{answerRoom}
 use Rattle.hexline.proofs.Serving.{line-answer-most}
 use Rattle.tasks.specs.declared.Task.{Task}
-use Rattle.tasks.specs.declared.Task.the-variants.{Line, Unit, Pack, Judge, Frames}
+use Rattle.tasks.specs.declared.Task.the-variants.{Line, Unit, Pack, Judge, Frames, Explain}
 use Rattle.desk.specs.declared.Desk.{Desk}
 use Rattle.desk.specs.Place.{Place, profileAt, stationAt}
 use Rattle.tasks.specs.Tasks.{taskSays, taskLongSays, taskProgram}
@@ -30,6 +30,7 @@ use Rattle.unitstep.proofs.Units.{unit-octets}
 use Rattle.packstep.proofs.Packing.{pack-most, long-most}
 use Rattle.judgestep.proofs.Lengths.{judge-most, judge-long-most}
 use Rattle.frameline.proofs.Lines.{says-most}
+use Rattle.explainline.proofs.Lines.{explain-most}
 use Rattle.feeding.specs.Feed.{pieceProgram}
 use Rattle.feeding.specs.Output.{unitFirst, unitBehind}
 
@@ -40,6 +41,7 @@ answer-most Unit m line = omega arith
 answer-most Pack m line = pack-most m line
 answer-most Judge m line = judge-most m line
 answer-most Frames m line = says-most line
+answer-most Explain m line = explain-most (profileAt m) line
 
 answer-long-most : (t : Task) (d : Desk) → length (taskLongSays t d) ≤ answerRoom
 unfolding textOf
@@ -48,6 +50,7 @@ answer-long-most Unit d = omega arith
 answer-long-most Pack d = long-most d
 answer-long-most Judge d = judge-long-most d
 answer-long-most Frames d = omega arith
+answer-long-most Explain d = omega arith
 
 module _ (t : Task) where
   task-fits : LineFits (taskProgram t)

@@ -11,7 +11,7 @@ ghost use Rattle.hexline.specs.Line.{lineAnswer, lineAfter};
 ghost use Rattle.hexline.specs.Said.{SaidBy, ServedBy};
 
 // How many octets a packet line has at the most.
-const PACKET_ROOM: usize = 2048;
+pub const PACKET_ROOM: usize = 2048;
 
 // How far the answers have come: the place of the next one in the text, and the counts.
 pub struct Written {

@@ -1,15 +1,17 @@
 -- Laws of `between`: a part that lies in its slice.
 -- Assumes nothing.
-use mathlib.Core.Path.{_≡_, ap, _∙_}
+use mathlib.Core.Path.{_≡_, ap, ap₂, _∙_}
 use mathlib.Core.Bool.{_&&_}
 use mathlib.Core.List.{List, []}
-use Prim.Native.Nat.{ℕ, _-_, _≤_, _<_, zero-le}
+use Prim.Native.Nat.{ℕ, _+_, _*_, _-_, _≤_, _<_, zero-le}
 use native.Mathlib.Nat.{sub-zero}
 use native.Mathlib.Omega.{arith}
 use lib.ListN.{length, take, drop, length-take, length-drop}
 use lib.Dec.{leb}
+use lib.Seq.{getD-take, getD-drop}
 use borrow.Author.Tests.{le-leb, lt-leb}
 use Rattle.octets.specs.Copy.{between}
+use Rattle.octets.specs.Numbers.{octet, word16, word32}
 use Rattle.laws.proofs.Order.{by-order}
 use Rattle.laws.proofs.Tests.{by-test}
 
@@ -37,3 +39,25 @@ between-most start end s =
     by-test (leb start end && leb end (length s))
     (λ t. rw t (simp (length-take, length-drop) (omega arith)))
     (λ e. rw e zero-le)
+
+-- An octet of a part is that of the slice, so far behind the part's start.
+pub between-octet : (start end : ℕ) (s : List ℕ) (k : ℕ) → start + k < end → end ≤ length s → octet (between start end s) k ≡ octet s (start + k)
+between-octet start end s k h l =
+    ap (λ (r : List ℕ). octet r k) (between-eq start end s (omega arith) l)
+    ∙ getD-take (end - start) (drop start s) k 0 (omega arith)
+    ∙ getD-drop start s k 0
+
+-- So are its numbers of 16 and 32 bits.
+pub between-word16 : (start end : ℕ) (s : List ℕ) (k : ℕ) → start + k + 1 < end → end ≤ length s → word16 (between start end s) k ≡ word16 s (start + k)
+between-word16 start end s k h l =
+    let next : start + (k + 1) ≡ start + k + 1 = omega arith in
+    ap₂ (λ (a b : ℕ). a * 256 + b)
+    (between-octet start end s k (omega arith) l)
+    (between-octet start end s (k + 1) (omega arith) l ∙ ap (octet s) next)
+
+pub between-word32 : (start end : ℕ) (s : List ℕ) (k : ℕ) → start + k + 3 < end → end ≤ length s → word32 (between start end s) k ≡ word32 s (start + k)
+between-word32 start end s k h l =
+    let next : start + (k + 2) ≡ start + k + 2 = omega arith in
+    ap₂ (λ (a b : ℕ). a * 65536 + b)
+    (between-word16 start end s k (omega arith) l)
+    (between-word16 start end s (k + 2) (omega arith) l ∙ ap (word16 s) next)

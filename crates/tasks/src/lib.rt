@@ -1,9 +1,10 @@
-// What the programs over lines do with a line: the line program, the reader of unit files, `pack`, `judge` and `frames`.
+// What the programs over lines do with a line: the line program, the reader of unit files, `pack`, `judge`, `frames` and `explain`.
 use desk::Desk;
 use desk::Done;
 ghost use mathlib.Core.Path.{_≡_};
 ghost use Rattle.saying.specs.Text.{SaysBy};
 ghost use Rattle.desk.specs.Did.{DidBy};
+ghost use Rattle.explainline.specs.Line.{explainSays};
 ghost use Rattle.tasks.specs.Tasks.{lineSays, lineBecomes, taskSays, taskBecomes, taskLongSays, taskLongDesk};
 
 // Which program it is.
@@ -13,6 +14,7 @@ pub enum Task {
     Pack,
     Judge,
     Frames,
+    Explain,
 }
 
 // The line program's answer to a line.
@@ -33,6 +35,14 @@ fn line_answer(
         at: w.at,
         desk: desk::with_state(d, state),
     }
+}
+
+// The answer of `explain` to a line, under the profile of the unit.
+fn explain_answer(d: Desk, line: &[u8], text: &mut [u8], at: usize) -> usize
+    ensures { λ r. ⌜ SaysBy (explainSays (d .draft .profile) (now (line .entry))) at text r ⌝ }
+{
+    let draft = d.draft;
+    explainline::answer(draft.profile, line, text, at)
 }
 
 // What a program does with a line: what it says, added to a text from a place on, and what goes on.
@@ -56,6 +66,10 @@ pub fn answer(
             at: frameline::answer(line, text, at),
             desk: d,
         },
+        Task::Explain => Done {
+            at: explain_answer(d, line, text, at),
+            desk: d,
+        },
     }
 }
 
@@ -74,6 +88,10 @@ pub fn answer_long(task: Task, d: Desk, text: &mut [u8], at: usize) -> Done
         Task::Judge => judgestep::judge_long(d, text, at),
         Task::Frames => Done {
             at: frametext::put_bad(text, at),
+            desk: d,
+        },
+        Task::Explain => Done {
+            at: explainline::put_bad(text, at),
             desk: d,
         },
     }

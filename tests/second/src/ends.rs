@@ -1,5 +1,5 @@
-//! What the tallies of `pack` and `judge` share: which ends were wanted, how often each was reached, and the words that
-//! both programs say.
+//! What the tallies of `pack`, `judge` and `explain` share: which ends were wanted, how often each was reached, and the
+//! words that these programs say.
 
 use std::collections::BTreeMap;
 use std::fs;

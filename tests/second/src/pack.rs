@@ -36,14 +36,22 @@ pub enum Why {
 
 /// Reads the unit, then answers packet after packet; what comes last is for the caller to say.
 pub fn run(unit: &mut dyn Read, packets: &mut dyn Read, output: &mut dyn Write) -> io::Result<End> {
-    let unit = match unit::read(unit)? {
-        Ok(unit) => unit,
-        Err(bad) => return Ok(End::BadUnit(bad)),
-    };
-    match soundness::first_failing(&unit) {
-        Some(clause) => Ok(End::Unsound(clause)),
-        None => record(unit, packets, output),
+    match sound_unit(unit)? {
+        Ok(unit) => record(unit, packets, output),
+        Err(end) => Ok(end),
     }
+}
+
+/// The sound unit that a unit file states, or how a program ends that is given another file.
+pub(crate) fn sound_unit(file: &mut dyn Read) -> io::Result<Result<Unit, End>> {
+    let unit = match unit::read(file)? {
+        Ok(unit) => unit,
+        Err(bad) => return Ok(Err(End::BadUnit(bad))),
+    };
+    Ok(match soundness::first_failing(&unit) {
+        Some(clause) => Err(End::Unsound(clause)),
+        None => Ok(unit),
+    })
 }
 
 /// The record of all packets up to a line that is none. All that is due is sent before more is read.

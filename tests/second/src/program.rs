@@ -10,6 +10,8 @@ use std::process::ExitCode;
 
 /// Stands for standard input where a file is named.
 pub const STANDARD_INPUT: &str = "-";
+/// Names a unit file where one may be left out.
+const UNIT_OPTION: &str = "--unit";
 
 /// A file or standard input, which says its name where it cannot be read.
 pub struct Input {
@@ -49,6 +51,34 @@ impl Input {
         }
         Ok((Input::open(unit)?, Input::open(file)?))
     }
+
+    /// The unit file that the option `--unit` names, where it is given, and a file behind it, which is standard input
+    /// where it is left out; both are opened before anything is read.
+    pub fn perhaps_unit_and(
+        arguments: &[OsString],
+        second: &str,
+        usage: &str,
+    ) -> Result<(Option<Input>, Input), String> {
+        let (unit, files) = match arguments {
+            [option] if option == UNIT_OPTION => return Err(format!("{UNIT_OPTION} names a unit file; {usage}")),
+            [option, unit, files @ ..] if option == UNIT_OPTION => (Some(unit), files),
+            files => (None, files),
+        };
+        if let Some(option) = unit.into_iter().chain(files).find(|argument| is_option(argument)) {
+            let what = if option == UNIT_OPTION { "option out of its place" } else { "unknown option" };
+            return Err(format!("{what} {}; {usage}", option.to_string_lossy()));
+        }
+        let standard = OsString::from(STANDARD_INPUT);
+        let file = match files {
+            [] => &standard,
+            [file] => file,
+            _ => return Err(usage.into()),
+        };
+        if unit == Some(&standard) && *file == standard {
+            return Err(format!("standard input cannot be both the unit and the {second}; {usage}"));
+        }
+        Ok((unit.map(|unit| Input::open(unit)).transpose()?, Input::open(file)?))
+    }
 }
 
 impl Read for Input {
@@ -84,6 +114,20 @@ pub fn finish(result: io::Result<()>) -> ExitCode {
         Err(error) if error.kind() == ErrorKind::BrokenPipe => ExitCode::SUCCESS,
         Err(error) => fail(&error.to_string()),
     }
+}
+
+/// Says what comes last, a line on standard output and words on standard error: a verdict, which keeps its status where
+/// nobody reads any more. Without a line all went well.
+pub fn say_end(line: Option<String>, words: Option<String>, output: &mut dyn Write) -> ExitCode {
+    let Some(line) = line else {
+        return ExitCode::SUCCESS;
+    };
+    let written = writeln!(output, "{line}").and_then(|()| output.flush());
+    if let Some(words) = words {
+        fail(&words);
+    }
+    finish(written);
+    ExitCode::from(2)
 }
 
 /// Says what is wrong on standard error.

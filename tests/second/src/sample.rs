@@ -11,18 +11,18 @@ const CHECKSUM_FLAG: u8 = 0x10;
 
 /// A telecommand with every field free; length field and error control are right.
 #[derive(Clone)]
-struct Fields {
-    packet_id: u16,
-    sequence: u16,
-    version_and_ack: u8,
-    service: u8,
-    subtype: u8,
+pub(crate) struct Fields {
+    pub(crate) packet_id: u16,
+    pub(crate) sequence: u16,
+    pub(crate) version_and_ack: u8,
+    pub(crate) service: u8,
+    pub(crate) subtype: u8,
     pad: u8,
     data: Vec<u8>,
 }
 
 /// Start and length of a block.
-type Span = (u32, u16);
+pub(crate) type Span = (u32, u16);
 
 /// A packet of any kind; about half are served by a sound profile.
 pub fn packet(random: &mut Random, profile: &Profile) -> Vec<u8> {
@@ -110,7 +110,7 @@ pub fn short(random: &mut Random, profile: &Profile, request: Option<MemoryReque
 }
 
 impl Fields {
-    fn octets(&self) -> Vec<u8> {
+    pub(crate) fn octets(&self) -> Vec<u8> {
         let total = self.data.len() + 12;
         let mut octets = Vec::with_capacity(total);
         octets.extend_from_slice(&self.packet_id.to_be_bytes());
@@ -125,7 +125,7 @@ impl Fields {
 }
 
 /// Makes the error control right by the method that the flag selects.
-fn seal(octets: &mut [u8]) {
+pub(crate) fn seal(octets: &mut [u8]) {
     if let Some((body, error_control)) = octets.split_last_chunk_mut::<2>() {
         let flagged = body.get(6).is_some_and(|octet| octet & CHECKSUM_FLAG != 0);
         let method = if flagged { Method::Crc } else { Method::Iso };
@@ -133,7 +133,7 @@ fn seal(octets: &mut [u8]) {
     }
 }
 
-fn telecommand(random: &mut Random, profile: &Profile, service: u8, subtype: u8, data: Vec<u8>) -> Fields {
+pub(crate) fn telecommand(random: &mut Random, profile: &Profile, service: u8, subtype: u8, data: Vec<u8>) -> Fields {
     let ack = random.below(16) as u8;
     let checksum_flag = random.pick(&[0, CHECKSUM_FLAG]);
     Fields {
@@ -148,7 +148,7 @@ fn telecommand(random: &mut Random, profile: &Profile, service: u8, subtype: u8,
 }
 
 /// Data of service 6 with random words for a load.
-fn memory_data(random: &mut Random, request: MemoryRequest, memory_id: u8, spans: &[Span]) -> Vec<u8> {
+pub(crate) fn memory_data(random: &mut Random, request: MemoryRequest, memory_id: u8, spans: &[Span]) -> Vec<u8> {
     let mut data = vec![memory_id, spans.len() as u8];
     for (start, length) in spans {
         data.extend_from_slice(&start.to_be_bytes());
@@ -168,7 +168,7 @@ fn flag_on(profile: &Profile, request: MemoryRequest) -> bool {
     }
 }
 
-fn right_given(area: &Area, request: MemoryRequest) -> bool {
+pub(crate) fn right_given(area: &Area, request: MemoryRequest) -> bool {
     match request {
         MemoryRequest::Load => area.rights.load,
         MemoryRequest::Dump => area.rights.dump,

@@ -114,7 +114,13 @@ fn in_range(counts: Counts) -> bool {
     counts.category_1 <= tc::LARGEST_COUNT && counts.category_9 <= tc::LARGEST_COUNT
 }
 
-/// Checks 1 to 19 in order.
+/// The first check from 42 on that a packet fails, if it fails one: its verdict under a sound profile. Nothing of what was
+/// answered before matters.
+pub fn refusal_of(profile: &Profile, packet: &[u8]) -> Option<Refusal> {
+    examine(profile, packet).err()
+}
+
+/// Checks 42 and 1 to 19 in order.
 fn examine<'a>(profile: &Profile, packet: &'a [u8]) -> Result<(Telecommand<'a>, Request<'a>), Refusal> {
     let telecommand = tc::read(packet)?;
     if telecommand.apid != tc::apid(profile.pid, tc::CATEGORY) {

@@ -39,6 +39,12 @@ enum-told-5 c = search needs
 answer-requires : tie.Need-answer-requires
 answer-requires c κs = search needs
 
+enum-told-6 : tie.Need-enum-told-6
+enum-told-6 c = search needs
+
+explain-answer-requires : tie.Need-explain-answer-requires
+explain-answer-requires c κs = search needs
+
 same-length : tie.Need-same-length
 same-length c = search needs
 
@@ -101,6 +107,14 @@ returns-5 c =
     let k = c .before .before in
     rw (k .before .before .enum-told5 .given .1) (record { says = k .answer .ensures; desk-is = refl; store-is = refl; out-is = refl })
 
+same-length-13 : tie.Need-same-length-13
+same-length-13 c = search needs
+
+returns-6 : tie.Need-returns-6
+returns-6 c =
+    let k = c .before .before in
+    rw (k .before .before .enum-told6 .given .1) (record { says = k .explain-answer .ensures; desk-is = refl; store-is = refl; out-is = refl })
+
 pub answer-spec : {M : Type 1} → statement M
 answer-spec =
     tie.close
@@ -116,6 +130,8 @@ answer-spec =
     judge-answer-requires
     enum-told-5
     answer-requires
+    enum-told-6
+    explain-answer-requires
     same-length
     same-length-2
     same-length-3
@@ -132,4 +148,6 @@ answer-spec =
     same-length-11
     returns-4
     same-length-12
-    returns-5)
+    returns-5
+    same-length-13
+    returns-6)

@@ -39,6 +39,12 @@ enum-told-5 c = search needs
 put-bad-requires : tie.Need-put-bad-requires
 put-bad-requires c κs = search needs
 
+enum-told-6 : tie.Need-enum-told-6
+enum-told-6 c = search needs
+
+put-bad-requires-2 : tie.Need-put-bad-requires-2
+put-bad-requires-2 c κs = search needs
+
 same-length : tie.Need-same-length
 same-length c = search needs
 
@@ -79,6 +85,14 @@ returns-5 c =
     let k = c .before .before in
     rw (k .before .before .enum-told5 .given .1) (k .put-bad .ensures, refl)
 
+same-length-6 : tie.Need-same-length-6
+same-length-6 c = search needs
+
+returns-6 : tie.Need-returns-6
+returns-6 c =
+    let k = c .before .before in
+    rw (k .before .before .enum-told6 .given .1) (k .put-bad2 .ensures, refl)
+
 pub answer-long-spec : {M : Type 1} → statement M
 answer-long-spec =
     tie.close
@@ -94,6 +108,8 @@ answer-long-spec =
     judge-long-requires
     enum-told-5
     put-bad-requires
+    enum-told-6
+    put-bad-requires-2
     same-length
     returns
     same-length-2
@@ -103,4 +119,6 @@ answer-long-spec =
     same-length-4
     returns-4
     same-length-5
-    returns-5)
+    returns-5
+    same-length-6
+    returns-6)

@@ -2,10 +2,10 @@
 
 use std::env;
 use std::ffi::OsString;
-use std::io::{self, Write};
+use std::io;
 use std::process::ExitCode;
 
-use second::pack::{self, End};
+use second::pack;
 use second::program::{self, Input};
 
 /// How the program is called.
@@ -19,20 +19,7 @@ fn main() -> ExitCode {
     };
     let mut output = io::stdout().lock();
     match pack::run(&mut unit, &mut packets, &mut output) {
-        Ok(end) => finish(&end, &mut output),
+        Ok(end) => program::say_end(end.last_line(), end.words(), &mut output),
         Err(error) => program::finish(Err(error)),
     }
-}
-
-/// Says what comes last. A verdict keeps its status where nobody reads any more.
-fn finish(end: &End, output: &mut dyn Write) -> ExitCode {
-    let Some(line) = end.last_line() else {
-        return ExitCode::SUCCESS;
-    };
-    let written = writeln!(output, "{line}").and_then(|()| output.flush());
-    if let Some(words) = end.words() {
-        program::fail(&words);
-    }
-    program::finish(written);
-    ExitCode::from(2)
 }

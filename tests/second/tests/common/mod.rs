@@ -3,6 +3,7 @@
 
 #![allow(dead_code)]
 
+pub mod explaining;
 pub mod judging;
 pub mod packing;
 
