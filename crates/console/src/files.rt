@@ -76,7 +76,8 @@ fn open_file(name: &[u8], path: &[u8]) -> Opened {
 // A file by its name: standard input where that is `-`; any other name that begins so is an option that there is not.
 fn named(name: &[u8], path: &[u8]) -> Opened {
     if path.len() == 0 {
-        return unreadable(name, path);
+        fail(name, b": the name of a file is empty\n");
+        return none();
     }
     if path[0] != b'-' {
         return open_file(name, path);

@@ -14,7 +14,7 @@ const LENGTH: u8 = 4;
 
 const TYPE: u8 = 7;
 
-const DATA: u8 = 10;
+const DATA: u8 = tc::HEAD as u8;
 
 // The octets that the check looks at which refused a packet.
 pub fn octets_of(packet: &[u8], refusal: Refusal) -> Span

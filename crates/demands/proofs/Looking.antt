@@ -102,7 +102,7 @@ found-or-not (At a) = (λ h. absurd (false≢true (sym h)), λ h. (a, refl))
 found-or-not Nothing = (λ h. refl, λ h. absurd (false≢true h))
 
 module _ (p : Profile) (packet : List ℕ) (octets : Octets packet) where
-  -- What is shown where a row is the first that fails: some octets, or none of them behind the first octet, and what is wrong there.
+  -- What a refusal shows: a part of the packet that has a last offset, and in it what is wrong.
   abbrev pub Shows : Refusal → Type 0
   Shows r = (1 ≤ octetsOf packet r .to) × Wrong p packet (r .check) (r .detail) (placed (octetsOf packet r) packet)
 

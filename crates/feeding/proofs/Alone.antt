@@ -1,7 +1,7 @@
 -- A program that answers each line by itself, and keeps nothing from line to line: its whole output, however the input is divided.
 -- Assumes nothing.
 use mathlib.Core.Path.{_≡_, refl, sym, ap, ap₂, _∙_}
-use mathlib.Core.Bool.{true}
+use mathlib.Core.Bool.{true, false}
 use mathlib.Core.List.{List, [], _∷_, _++_, map}
 use Prim.Native.Nat.{ℕ, _≤_, _<_}
 use lib.ListN.{length, replicate}
@@ -13,6 +13,7 @@ use Rattle.lines.specs.Lines.{linesOf}
 use Rattle.lines.specs.Turn.{Turn, lastSays, turnsOf}
 use Rattle.lines.specs.Feed.{lineSays, lineBecomes, outputOf}
 use Rattle.packetline.specs.Packet.{lineMost}
+use Rattle.clauses.specs.Clauses.{isSound, clauseOf}
 use Rattle.hexline.specs.Whole.{answerRoom}
 use Rattle.frameline.specs.Line.{frameSays, framesOutput}
 use Rattle.frameline.proofs.Lines.{says-bad-long}
@@ -20,9 +21,10 @@ use Rattle.explainline.specs.Line.{explainSays, explainOutput}
 use Rattle.explainline.proofs.Lines.{explain-long}
 use Rattle.tasks.specs.declared.Task.{Task}
 use Rattle.tasks.specs.declared.Task.the-variants.{Frames, Explain}
-use Rattle.desk.specs.Place.{Place, atDesk, profileAt}
+use Rattle.desk.specs.Place.{Place, deskFor, isHalted, atDesk, profileAt}
 use Rattle.tasks.specs.Tasks.{taskSays, taskBecomes, taskLongSays, taskLongDesk, taskProgram}
 use Rattle.feeding.specs.Feed.{pieceProgram}
+use Rattle.feeding.specs.Output.{unitOf, explainedUnder}
 use Rattle.feeding.proofs.Streaming.{stream-whole}
 
 -- ---- any such program
@@ -74,3 +76,12 @@ pub stream-explain : (room n : ℕ) (m : Place) (parts : List (List ℕ)) → an
     s .said ++ lastSays (pieceProgram Explain) (s .after) (s .begins) (s .left) ≡ explainOutput (profileAt m) (joined parts))
 stream-explain room n m parts r h =
     stream-alone Explain m (explainSays (profileAt m)) (λ line. refl) (λ line more. sym (explain-long (profileAt m) line more)) (λ line. refl) refl room n parts r h
+
+-- `explain` with a unit file: under the unit that it states, where that is sound, what is said is what is printed for the file and the packets.
+pub stream-under : (file store out : List ℕ) → isHalted (unitOf file) ≡ false → isSound (clauseOf (unitOf file .draft .profile) (unitOf file .draft .stored)) ≡ true
+    → (room n : ℕ) (parts : List (List ℕ)) → answerRoom ≤ room → length (joined parts) < n
+    → (let m : Place = record { desk = deskFor (unitOf file .draft); store = store; out = out } in
+    let s : Turn Place = turnsOf (pieceProgram Explain) room true m true [] (parts ++ replicate n []) in
+    s .said ++ lastSays (pieceProgram Explain) (s .after) (s .begins) (s .left) ≡ explainedUnder file (joined parts))
+stream-under file store out fine sound room n parts r h =
+    rw (fine, sound) (stream-explain room n (record { desk = deskFor (unitOf file .draft); store = store; out = out }) parts r h)
