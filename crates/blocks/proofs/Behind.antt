@@ -49,9 +49,8 @@ module _ (carried : ℕ) (d : List ℕ) where
 
   -- ---- the first that fails a test
 
-  -- What is known of the block with that number less one, where the first test that fails has the number and each block has something.
+  -- What is known of the block behind k others, where it is the first that fails a test from the one behind i on, and each block has something.
   pub record Stopped (P : Block → Type 0) (test : Block → Bool) (i k : ℕ) : Type 0 where
-    pub past : i ≤ k
     pub has : P (blockBehind carried d k)
     pub fails : test (blockBehind carried d k) ≡ false
     pub before : (j : ℕ) → i ≤ j → j < k → test (blockBehind carried d j) ≡ true
@@ -68,7 +67,6 @@ module _ (carried : ℕ) (d : List ℕ) where
       let more : firstFrom (i + 1 + 1) (map test (blocksFrom carried d m next)) ≡ k + 1 = ap (λ (n : ℕ). firstFrom n (map test (blocksFrom carried d m next))) (add-one (i + 1)) ∙ later in
       let rest : Stopped P test (i + 1) k = stops P test m (i + 1) next k (behind-next i at) (each .1) more in
       record {
-        past = omega (arith, rest .past);
         has = rest .has;
         fails = rest .fails;
         before = λ j h l.
@@ -81,7 +79,6 @@ module _ (carried : ℕ) (d : List ℕ) where
       let same : i ≡ k = omega arith in
       let here : blockAt carried d place ≡ blockBehind carried d k = at ∙ ap (blockBehind carried d) same in
       record {
-        past = omega arith;
         has = subst P here (each .0);
         fails = ap test (sym here) ∙ w;
         before = λ j h l. absurd (omega arith);

@@ -77,6 +77,32 @@ answer-from {R = R} (x ∷ rest) =
     (λ t. ⊎-elim (λ h. inl (t, h)) (λ (f : (r : Row R) × First rest r). inr (f .0, inr (t, f .1))) (answer-from rest))
     (λ e. inr (x, inl (e, refl)))
 
+-- What is so of the row at the front where it fails, and of the first of those behind it where it holds, is so of the first row that fails.
+pub first-by : {R : Type 0} (P : Row R → Type 0) (x : Row R) (rest : List (Row R)) (r : Row R)
+    → (x .holds ≡ false → P x) → (x .holds ≡ true → First rest r → P r) → First (x ∷ rest) r → P r
+unfolding First
+first-by P x rest r here later f =
+    ⊎-elim
+    (λ (h : (x .holds ≡ false) × (r ≡ x)). rw (h .1) (here (h .0)))
+    (λ (h : (x .holds ≡ true) × First rest r). later (h .0) (h .1))
+    f
+
+-- No row of none fails.
+pub first-none : {R X : Type 0} (r : Row R) → First [] r → X
+unfolding First
+first-none r f = absurd f
+
+-- Tables joined, where every row of the first holds: every row holds where those of the second do, and the first that fails is the second's.
+pub all-joined : {R : Type 0} (xs ys : List (Row R)) → AllHold xs → AllHold ys → AllHold (xs ++ ys)
+unfolding AllHold
+all-joined [] ys h k = k
+all-joined (x ∷ xs) ys h k = (h .0, all-joined xs ys (h .1) k)
+
+pub first-joined : {R : Type 0} (xs ys : List (Row R)) (r : Row R) → AllHold xs → First ys r → First (xs ++ ys) r
+unfolding AllHold First
+first-joined [] ys r h f = f
+first-joined (x ∷ xs) ys r h f = inr (h .0, first-joined xs ys r (h .1) f)
+
 -- The first row of a table that fails is one of its rows, and fails.
 pub first-row : {R : Type 0} (P : Row R → Type 0) (table : List (Row R)) (r : Row R) → Each P table → First table r → P r × (r .holds ≡ false)
 unfolding First

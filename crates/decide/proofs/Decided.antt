@@ -30,7 +30,8 @@ use Rattle.requests.specs.declared.Request.the-variants.{Memory, Connection}
 use Rattle.requests.specs.declared.Asked.{Asked}
 use Rattle.requests.specs.declared.Asked.the-variants.{Known, Unknown}
 use Rattle.serving.specs.declared.Decision.{Decision}
-use Rattle.requests.specs.Request.{serves, offers, rightFor, carriedBy, areaNamed, isFound, outsideOf}
+use Rattle.requests.proofs.Found.{found-is}
+use Rattle.requests.specs.Request.{serves, offers, rightFor, carriedBy, areaNamed, outsideOf}
 use Rattle.decide.specs.Table.{outLeast, callerRight, callerRows, rows, decided, decisionOf}
 use Rattle.serving.specs.Services.{hasRight, allInside, areaRows, memoryRows, memoryTask, Formed, FormedFor}
 use Rattle.addressing.specs.Requested.{serviceRows, taskFor, askedBy, requestRows}
@@ -114,10 +115,6 @@ pub record MemoryFacts (p : Profile) (action : Action) (d : List ℕ) : Type 0 w
   pub named : areaNamed p d ≡ At area
   pub right : rightFor (area .rights) action ≡ true
   pub inside : outsideOf area (blocksOf (carriedBy action) d) ≡ 0
-
-found-is : (f : Found) → isFound f ≡ true → (a : Area) × (f ≡ At a)
-found-is (At a) h = (a, refl)
-found-is Nothing h = absurd (false≢true h)
 
 pub memory-facts : (p : Profile) (action : Action) (d : List ℕ) → AllHold (memoryRows p action d) → MemoryFacts p action d
 unfolding AllHold memoryRows areaRows

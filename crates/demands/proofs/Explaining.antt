@@ -3,21 +3,20 @@
 use mathlib.Core.Path.{_≡_, refl, sym, ap, subst, _∙_}
 use mathlib.Core.Bool.{Bool, true, false, false≢true}
 use mathlib.Core.Logic.{_⊎_, inl, inr, ⊎-elim}
-use mathlib.Core.List.{List, [], _∷_, _++_, map}
-use Prim.Native.Nat.{ℕ, _+_, _-_, _<_}
+use mathlib.Core.List.{List, [], _∷_, map}
+use Prim.Native.Nat.{ℕ, _+_, _-_}
 use native.Mathlib.Omega.{arith}
 use lib.ListN.{length, replicate}
 use lib.Dec.{leb}
-use borrow.Author.Tests.{leb-true}
-use Rattle.laws.specs.Each.{Each, every}
-use Rattle.laws.proofs.Tests.{both}
+use Rattle.laws.specs.Each.{every}
 use Rattle.octets.specs.declared.copy.Span.{Span}
 use Rattle.octets.specs.Numbers.{Octets}
 use Rattle.octets.specs.Copy.{between}
-use Rattle.octets.proofs.Octets.{octets-of}
+use Rattle.octets.proofs.Octets.{octets-tested}
 use Rattle.checks.specs.declared.Refusal.{Refusal}
 use Rattle.checks.specs.Table.{Row, First, AllHold}
-use Rattle.checks.proofs.Verdicts.{first-refuses, all-accept, accepted-or-first}
+use Rattle.checks.proofs.Table.{answer-from, all-joined, first-joined}
+use Rattle.checks.proofs.Verdicts.{first-refuses, all-accept}
 use Rattle.map.specs.declared.Profile.{Profile}
 use Rattle.blocks.specs.Blocks.{blockBehind}
 use Rattle.decide.specs.Table.{callerRows, packetRows, rows}
@@ -72,9 +71,6 @@ module _ (p : Profile) (packet : List ℕ) where
         wrong = subst (λ (n : ℕ). Wrong p packet (r .refusal .check) (r .refusal .detail) (between (span .from) n packet)) (sym back) (shows .1);
       }
 
-  all-or-first : AllHold (packetRows p packet) ⊎ ((r : Row Refusal) × First (packetRows p packet) r)
-  all-or-first = ⊎-elim (λ a. inl (a .0)) (λ f. inr (f .0, f .1)) (accepted-or-first (packetRows p packet))
-
 -- The explainer of document 02 meets the demand. Ruled out: one that names a later check, or shows octets in which nothing is wrong.
 pub explainer-explains : Explains referenceExplainer
 explainer-explains = record {
@@ -82,12 +78,12 @@ explainer-explains = record {
       ⊎-elim
       (λ a. a)
       (λ f. absurd (false≢true (ap isFine (sym (said-because p packet (f .0) (f .1)) ∙ said))))
-      (all-or-first p packet);
+      (answer-from (packetRows p packet));
   refused = λ p packet o e said.
       ⊎-elim
       (λ a. absurd (false≢true (ap isFine (sym said ∙ said-fine p packet a))))
       (λ f. subst (Tells p packet) (ap reasonIn (sym (said-because p packet (f .0) (f .1)) ∙ said)) (reason-tells p packet o (f .0) (f .1)))
-      (all-or-first p packet);
+      (answer-from (packetRows p packet));
 }
 
 -- ---- no other
@@ -109,16 +105,6 @@ no-other-explainer f explains p packet o =
 
 -- ---- what a terminal answers
 
-all-joined : (xs ys : List (Row Refusal)) → AllHold xs → AllHold ys → AllHold (xs ++ ys)
-unfolding AllHold
-all-joined [] ys h k = k
-all-joined (x ∷ xs) ys h k = (h .0, all-joined xs ys (h .1) k)
-
-first-joined : (xs ys : List (Row Refusal)) (r : Row Refusal) → AllHold xs → First ys r → First (xs ++ ys) r
-unfolding AllHold First
-first-joined [] ys r h f = f
-first-joined (x ∷ xs) ys r h f = inr (h .0, first-joined xs ys r (h .1) f)
-
 -- Past 40 and 41, a terminal that meets demand 1 answers the number and the detail that are told.
 pub explained-as-answered : (f : Explainer) → Explains f → (t : Terminal) → Refuses t → (i : Input) → Octets (i .packet)
     → AllHold (callerRows (i .profile) (i .state) (length (i .store)) (length (i .out))) → AgreesWith (f (i .profile) (i .packet)) (t i .outcome .verdict)
@@ -133,25 +119,14 @@ explained-as-answered f explains t refuses i o caller =
     rw (said ∙ said-fine p packet a, refuses .decides i .accepts (all-joined before (packetRows p packet) caller a)) tt)
     (λ (r : (r : Row Refusal) × First (packetRows p packet) r).
     rw (said ∙ said-because p packet (r .0) (r .1), refuses .decides i .refuses (r .0) (first-joined before (packetRows p packet) (r .0) caller (r .1))) (refl, refl))
-    (all-or-first p packet)
+    (answer-from (packetRows p packet))
 
 -- ---- wrong explainers
 
--- Octets by computation.
-tested : (s : List ℕ) → every (λ (x : ℕ). leb x 255) s ≡ true → Each (λ (x : ℕ). x < 256) s
-unfolding every
-tested [] h = tt
-tested (x ∷ s) h =
-    let b = both (leb x 255) (every (λ (y : ℕ). leb y 255) s) h in
-    (omega (arith, leb-true x 255 (b .0)), tested s (b .1))
-
-computed : (s : List ℕ) → every (λ (x : ℕ). leb x 255) s ≡ true → Octets s
-computed s h = octets-of s (tested s h)
-
--- What it says of a packet that is refused, as numbers.
+-- What it says of a packet of octets under the line program's profile.
 module _ (f : Explainer) (explains : Explains f) (packet : List ℕ) (octets : every (λ (x : ℕ). leb x 255) packet ≡ true) where
   says : f lineProfile packet ≡ explanationOf lineProfile packet
-  says = no-other-explainer f explains lineProfile packet (computed packet octets)
+  says = no-other-explainer f explains lineProfile packet (octets-tested packet octets)
 
 -- An empty packet and one of six zero octets are refused by different checks.
 pub same-fails : (e : Explanation) (f : Explainer) → SaysTheSame e f → Explains f → ⊥

@@ -2,16 +2,14 @@
 -- Assumes nothing.
 use mathlib.Core.Path.{_≡_, refl, sym, ap, ap₂, subst, _∙_}
 use mathlib.Core.Bool.{true, false, false≢true}
-use mathlib.Core.Logic.{⊎-elim}
-use mathlib.Core.List.{List, [], _∷_, _++_}
+use mathlib.Core.List.{List, _++_}
 use Prim.Native.Nat.{ℕ, _+_, _*_, _-_, _/_, _%_, min, _≤_, _<_}
 use native.Mathlib.Nat.{add-zero}
 use native.Mathlib.Omega.{arith}
 use lib.ListN.{length, drop, take-append-drop, length-drop}
 use lib.Seq.{take-all}
 use lib.Dec.{leb, eqb}
-use borrow.Author.Tests.{le-leb, leb-true, leb-false, eq-eqb, eqb-false}
-use Rattle.laws.specs.First.{firstFrom}
+use borrow.Author.Tests.{leb-true, leb-false, eq-eqb, eqb-false}
 use Rattle.laws.proofs.Tests.{by-test}
 use Rattle.octets.specs.Numbers.{Octets, octet, word16, word32}
 use Rattle.octets.specs.Copy.{between, placed}
@@ -21,26 +19,31 @@ use Rattle.checks.specs.declared.Check.the-variants.{Short, Length, Control, He
 use Rattle.checks.specs.declared.Refusal.{Refusal}
 use Rattle.checks.specs.Table.{Row, First}
 use Rattle.checks.specs.Verdict.{row}
+use Rattle.checks.proofs.Table.{first-by, first-none}
 use Rattle.tc.specs.declared.Fields.{Fields}
 use Rattle.tc.specs.Layout.{category, covered, rightControl, fieldsOf, applicationOf}
-use Rattle.heading.specs.Heading.{lengthRight, firstFault, headerFault}
-use Rattle.heading.proofs.Lengths.{length-least}
+use Rattle.heading.specs.Heading.{lengthRight, headerFault}
+use Rattle.heading.proofs.Lengths.{length-least, length-right}
+use Rattle.heading.proofs.Faults.{fault-by}
 use Rattle.reader.specs.Reader.{leastOctets, mostDetail, controlRight, readerRows}
+use Rattle.reader.proofs.Judged.{control-right}
 use Rattle.map.specs.declared.Area.{Area}
 use Rattle.map.specs.declared.Profile.{Profile}
 use Rattle.map.specs.declared.Found.{Found}
-use Rattle.map.specs.declared.Found.the-variants.{At, Nothing}
+use Rattle.map.specs.declared.Found.the-variants.{At}
 use Rattle.map.specs.Place.{used, findIn, inside}
 use Rattle.blocks.specs.declared.Block.{Block}
-use Rattle.blocks.specs.Blocks.{blockCount, blockBehind, blocksOf}
+use Rattle.blocks.specs.Blocks.{blockBehind, blocksOf}
 use Rattle.blocks.specs.Form.{headRight, formOf, isRight, formDetail}
 use Rattle.blocks.proofs.Blocks.{Bounds}
 use Rattle.blocks.proofs.WellFormed.{head-facts, right-bounds}
-use Rattle.blocks.proofs.Behind.{Stopped, behind-fields, first-behind}
+use Rattle.blocks.proofs.Behind.{Stopped, behind-fields}
 use Rattle.requests.specs.declared.Action.{Action}
 use Rattle.requests.specs.declared.Request.the-variants.{Memory as Asks, Connection}
 use Rattle.requests.specs.declared.Asked.{Asked}
 use Rattle.requests.specs.declared.Asked.the-variants.{Known, Unknown}
+use Rattle.requests.proofs.Found.{found-is, found-not}
+use Rattle.requests.proofs.Outside.{outside-behind}
 use Rattle.requests.specs.Request.{serves, askedFor, offers, carriedBy, mostWords, areaNamed, isFound, insideOf, outsideOf}
 use Rattle.serving.specs.Services.{hasRight, outsideNumber, allInside, areaRows, memoryRows, connectionRows}
 use Rattle.addressing.specs.Requested.{serviceRows, askedBy, requestRows}
@@ -48,58 +51,29 @@ use Rattle.decide.specs.Table.{packetRows}
 use Rattle.decide.specs.Octets.{headerPlace, carriedFor, blockOctets, octetsOf}
 use Rattle.demands.specs.Explaining.{bitsIn, rightBits, NotFormed, Wrong}
 
--- The first row of a table that fails is the one at the front, or the first of those behind it.
-first-by : (P : Row Refusal → Type 0) (x : Row Refusal) (rest : List (Row Refusal)) (r : Row Refusal)
-    → (x .holds ≡ false → P x) → (x .holds ≡ true → First rest r → P r) → First (x ∷ rest) r → P r
-unfolding First
-first-by P x rest r here later f =
-    ⊎-elim
-    (λ (h : (x .holds ≡ false) × (r ≡ x)). subst P (sym (h .1)) (here (h .0)))
-    (λ (h : (x .holds ≡ true) × First rest r). later (h .0) (h .1))
-    f
-
-first-none : {X : Type 0} (r : Row Refusal) → First [] r → X
-unfolding First
-first-none r f = absurd f
-
 -- ---- check 16
 
 -- The field that the detail names, in its octet of a packet, has not its right value.
 header-wrong : (p : List ℕ) → Octets p → eqb (headerFault p) 0 ≡ false → bitsIn (headerFault p) (octet p (headerPlace (headerFault p))) ≡ rightBits (headerFault p) → ⊥
-unfolding headerFault firstFault firstFrom
-header-wrong p o fault =
+header-wrong p o =
     let id : ℕ = word16 p 0 in
     let version : id / 8192 ≡ octet p 0 / 32 = omega (arith, o 0, o 1) in
     let kind : id / 4096 ≡ octet p 0 / 16 = omega (arith, o 0, o 1) in
     let flag : id / 2048 ≡ octet p 0 / 8 = omega (arith, o 0, o 1) in
     let flags : word16 p 2 / 16384 ≡ octet p 2 / 64 = omega (arith, o 2, o 3) in
-    by-test (eqb (id / 8192) 0)
-    (λ t1.
-    by-test (eqb (id / 4096 % 2) 1)
-    (λ t2.
-    by-test (eqb (id / 2048 % 2) 1)
-    (λ t3.
-    by-test (eqb (word16 p 2 / 16384) 3)
-    (λ t4.
-    by-test (eqb (octet p 6 / 32) 0)
-    (λ t5. absurd (false≢true (sym (rw (t1, t2, t3, t4, t5) at fault))))
-    (λ w. rw (t1, t2, t3, t4, w) (eqb-false _ _ w)))
-    (λ w. rw (t1, t2, t3, w) (λ e. eqb-false _ _ w (flags ∙ e))))
-    (λ w. rw (t1, t2, w) (λ e. eqb-false _ _ w (ap (λ (n : ℕ). n % 2) flag ∙ e))))
-    (λ w. rw (t1, w) (λ e. eqb-false _ _ w (ap (λ (n : ℕ). n % 2) kind ∙ e))))
-    (λ w. rw w (λ e. eqb-false _ _ w (version ∙ e)))
+    fault-by (λ (n : ℕ). eqb n 0 ≡ false → bitsIn n (octet p (headerPlace n)) ≡ rightBits n → ⊥) p
+    (λ w _ e. eqb-false _ _ w (version ∙ e))
+    (λ w _ e. eqb-false _ _ w (ap (λ (n : ℕ). n % 2) kind ∙ e))
+    (λ w _ e. eqb-false _ _ w (ap (λ (n : ℕ). n % 2) flag ∙ e))
+    (λ w _ e. eqb-false _ _ w (flags ∙ e))
+    (λ w _ e. eqb-false _ _ w e)
+    (λ none e. false≢true (sym none))
 
 place-most : (detail : ℕ) → headerPlace detail ≤ 6
 place-most detail =
     by-test (leb detail 3)
     (λ t. rw t (omega arith))
     (λ e. rw e (by-test (eqb detail 4) (λ t. rw t (omega arith)) (λ f. rw f (omega arith))))
-
--- ---- an area that is found, or not
-
-found-or-not : (f : Found) → (isFound f ≡ false → f ≡ Nothing) × (isFound f ≡ true → (a : Area) × (f ≡ At a))
-found-or-not (At a) = (λ h. absurd (false≢true (sym h)), λ h. (a, refl))
-found-or-not Nothing = (λ h. refl, λ h. absurd (false≢true h))
 
 module _ (p : Profile) (packet : List ℕ) (octets : Octets packet) where
   -- What a refusal shows: a part of the packet that has a last offset, and in it what is wrong.
@@ -133,12 +107,9 @@ module _ (p : Profile) (packet : List ℕ) (octets : Octets packet) where
 
   module _ (six : leastOctets ≤ n) where
     shows-length : lengthRight packet ≡ false → Shows (record { check = Length; detail = min n mostDetail })
-    unfolding octetsOf lengthRight
-    shows-length h = (
-      omega arith,
-      λ least most e.
-          false≢true (sym h ∙ rw (le-leb _ _ least, le-leb _ _ most, eq-eqb n (word16 packet 4 + 7) (e ∙ ap (λ (w : ℕ). w + 7) (two 4 (omega arith)))) refl),
-    )
+    unfolding octetsOf
+    shows-length h =
+        (omega arith, λ least most e. false≢true (sym h ∙ length-right packet least most (e ∙ ap (λ (w : ℕ). w + 7) (two 4 (omega arith)))))
 
   module _ (long : lengthRight packet ≡ true) where
     least : 12 ≤ n
@@ -150,7 +121,7 @@ module _ (p : Profile) (packet : List ℕ) (octets : Octets packet) where
         ∙ take-all (n - (n - 2)) (drop (n - 2) packet) (omega (arith, length-drop (n - 2) packet))
 
     shows-control : controlRight packet ≡ false → Shows (record { check = Control; detail = rightControl packet })
-    unfolding octetsOf controlRight
+    unfolding octetsOf
     shows-control h =
         let x : ℕ = rightControl packet in
         let s : List ℕ = between (n - 2) n packet in
@@ -161,7 +132,7 @@ module _ (p : Profile) (packet : List ℕ) (octets : Octets packet) where
             refl,
             λ e.
                 let back : word16 s 0 ≡ x / 256 * 256 + x % 256 = ap (λ (r : List ℕ). word16 r 0) e in
-                eqb-false _ _ h (sym read ∙ back ∙ omega arith),
+                false≢true (sym h ∙ control-right packet (sym read ∙ back ∙ omega arith)),
           ),
         )
 
@@ -213,7 +184,7 @@ module _ (p : Profile) (packet : List ℕ) (octets : Octets packet) where
 
       shows-memory : isFound (areaNamed p d) ≡ false → Shows (record { check = Memory; detail = octet d 0 })
       unfolding octetsOf
-      shows-memory h = (omega arith, (id-shown, found-or-not (areaNamed p d) .0 h))
+      shows-memory h = (omega arith, (id-shown, found-not (areaNamed p d) h))
 
       module _ (area : Area) (named : areaNamed p d ≡ At area) where
         shows-right : hasRight (areaNamed p d) action ≡ false → Shows (record { check = Right; detail = octet d 0 })
@@ -227,12 +198,6 @@ module _ (p : Profile) (packet : List ℕ) (octets : Octets packet) where
         )
 
         module _ (formed : isRight (formOf (carriedBy action) (mostWords action) d) ≡ true) where
-          -- The block that is the first outside.
-          stopped : (k : ℕ) → outsideOf area (blocksOf (carriedBy action) d) ≡ k + 1
-              → Stopped (carriedBy action) d (Bounds (mostWords action) (length d)) (insideOf area) 0 k
-          unfolding outsideOf
-          stopped k e = first-behind (carriedBy action) d (Bounds (mostWords action) (length d)) (insideOf area) (blockCount d) k (right-bounds (carriedBy action) (mostWords action) d formed) e
-
           shows-outside : (number : ℕ) → outsideOf area (blocksOf (carriedBy action) d) ≡ number → eqb number 0 ≡ false → Shows (record { check = Outside; detail = number })
           unfolding octetsOf blockOctets applicationOf
           shows-outside number e some =
@@ -240,7 +205,8 @@ module _ (p : Profile) (packet : List ℕ) (octets : Octets packet) where
               let positive : number ≡ k + 1 = omega (arith, eqb-false number 0 some) in
               let carried : carriedFor (askedBy f) ≡ carriedBy action = ap carriedFor asks in
               let same : (j : ℕ) → blockBehind (carriedFor (askedBy f)) d j ≡ blockBehind (carriedBy action) d j = λ j. ap (λ (c : ℕ). blockBehind c d j) carried in
-              let stop : Stopped (carriedBy action) d (Bounds (mostWords action) (length d)) (insideOf area) 0 k = stopped k (e ∙ positive) in
+              let stop : Stopped (carriedBy action) d (Bounds (mostWords action) (length d)) (insideOf area) 0 k =
+              outside-behind area (carriedBy action) d (Bounds (mostWords action) (length d)) k (right-bounds (carriedBy action) (mostWords action) d formed) (e ∙ positive) in
               let b : Block = blockBehind (carriedFor (askedBy f)) d k in
               let at : ℕ = b .at in
               let s : List ℕ = between (10 + at) (10 + at + 6) packet in
@@ -281,7 +247,7 @@ module _ (p : Profile) (packet : List ℕ) (octets : Octets packet) where
         first-by ShowsRow _ _ r
         (λ w. shows-memory action asks head w)
         (λ found.
-        let at = found-or-not (areaNamed p d) .1 found in
+        let at = found-is (areaNamed p d) found in
         first-by ShowsRow _ _ r
         (λ w. shows-right action asks head (at .0) (at .1) w)
         (λ _.

@@ -3,29 +3,27 @@
 use mathlib.Core.Path.{_≡_, refl, sym, ap, _∙_}
 use mathlib.Core.Bool.{true, false, false≢true}
 use mathlib.Core.List.{List, [], _∷_, _++_, map}
-use Prim.Native.Nat.{ℕ, _+_, _-_, _/_, _%_, _≤_, _<_}
+use Prim.Native.Nat.{ℕ, _+_, _-_, _/_, _%_, _≤_}
 use native.Mathlib.Omega.{arith}
 use lib.ListN.{length, take-append-drop}
 use lib.Dec.{eqb}
-use borrow.Author.Tests.{eq-eqb, eqb-true}
 use Rattle.laws.proofs.Tests.{by-test}
 use Rattle.octets.specs.Numbers.{Octets, octet, word16}
 use Rattle.octets.proofs.Words.{last-two}
-use Rattle.octets.proofs.Octets.{octets-of}
+use Rattle.octets.proofs.Octets.{octets-tested}
 use Rattle.checks.specs.Verdict.{isAccepted, numberOf}
-use Rattle.crc.specs.Register.{crcOf}
 use Rattle.crc.proofs.Division.{crc-is-division}
 use Rattle.iso.specs.Checksum.{isoOf}
 use Rattle.iso.specs.Closing.{total, weighted, BothZero, Closes}
 use Rattle.iso.proofs.Closing.{iso-closes, no-other}
 use Rattle.tc.specs.declared.Method.{Method}
 use Rattle.tc.specs.declared.Method.the-variants.{Iso, Crc}
-use Rattle.tc.specs.Layout.{methodOf, valueBy, covered, rightControl, fieldsOf}
+use Rattle.tc.specs.Layout.{methodOf, valueBy, covered, fieldsOf}
 use Rattle.tc.proofs.Laying.{control-method}
 use Rattle.heading.specs.Heading.{lengthRight, headerFault}
 use Rattle.heading.proofs.Lengths.{length-least}
 use Rattle.reader.specs.Reader.{controlRight, judged, readingOf}
-use Rattle.reader.proofs.Judged.{judged-control, judged-header, judged-accepted}
+use Rattle.reader.proofs.Judged.{control-right, control-is, judged-control, judged-header, judged-accepted}
 use Rattle.terminal.specs.Outcome.{verdictOn}
 use Rattle.demands.specs.Packets.{Reader, referenceReader}
 use Rattle.demands.specs.Refusing.{Given}
@@ -63,14 +61,12 @@ module _ (p : List ℕ) (l : lengthRight p ≡ true) where
   least = length-least p l
 
   right-passes : Right p → controlRight p ≡ true
-  unfolding controlRight
   right-passes r =
-      eq-eqb _ _ (right-value p (omega (arith, least)) (methodOf (fieldsOf p .checksum)) r ∙ sym (control-method (fieldsOf p) (covered p)))
+      control-right p (right-value p (omega (arith, least)) (methodOf (fieldsOf p .checksum)) r ∙ sym (control-method (fieldsOf p) (covered p)))
 
   passes-right : Octets p → controlRight p ≡ true → Right p
-  unfolding controlRight
   passes-right o t =
-      value-right p (omega (arith, least)) (methodOf (fieldsOf p .checksum)) o (eqb-true _ _ t ∙ control-method (fieldsOf p) (covered p))
+      value-right p (omega (arith, least)) (methodOf (fieldsOf p .checksum)) o (control-is p t ∙ control-method (fieldsOf p) (covered p))
 
   -- What passes check 2 is not refused by it.
   not-given : controlRight p ≡ true → Given 2 (judged p) → ⊥
@@ -94,17 +90,12 @@ reader-by-method = record {
 
 -- ---- wrong readers
 
-connection-octets : (count a b : ℕ) → count < 256 → a < 256 → b < 256 → Octets (connection count a b)
-connection-octets count a b h i j =
-    octets-of (connection count a b)
-    (omega arith, (omega arith, (omega arith, (h, (omega arith, (omega arith, (omega arith, (omega arith, (omega arith, (omega arith, (i, (j, tt))))))))))))
-
 -- The packet that the CRC alone refuses.
 pub ignoring-flag-fails : (read : Reader) → IgnoresFlag read → ByMethod read → ⊥
 unfolding all total weighted
 ignoring-flag-fails read ignores by =
     let p : List ℕ = connection 0 0x02 0xA8 in
-    let o : Octets p = connection-octets 0 0x02 0xA8 (omega arith) (omega arith) (omega arith) in
+    let o : Octets p = octets-tested p refl in
     let r : Right p = record { first = (omega arith, omega arith); second = (omega arith, omega arith); sums = (refl, refl) } in
     omega (arith, ignores p refl (by .only p o refl r))
 
@@ -113,7 +104,7 @@ pub zero-passing-fails : (read : Reader) → LetsZeroPass read → ByMethod read
 unfolding all total weighted
 zero-passing-fails read lets by =
     let p : List ℕ = connection 64 0x00 0x6A in
-    let o : Octets p = connection-octets 64 0x00 0x6A (omega arith) (omega arith) (omega arith) in
+    let o : Octets p = octets-tested p refl in
     let r : Summed p = by .else-right p o refl (lets p refl (refl, refl)) in
     omega (arith, r .first .0)
 

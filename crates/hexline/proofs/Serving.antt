@@ -97,6 +97,10 @@ pub packet-in : (line : List ℕ) → isPacket line ≡ true → packetIn line �
 unfolding packetIn
 packet-in line good = take-all packetMost (octetsIn line) (omega (arith, octets-length line, packet-facts line good .2))
 
+-- So of a packet line that was written to such a buffer, half as many octets as it has digits are its packet.
+pub line-octets : (line d packet : List ℕ) → isPacket line ≡ true → length d ≡ packetMost → packet ≡ laid d 0 (octetsIn line) → take (length line / 2) packet ≡ octetsIn line
+line-octets line d packet good room f = decoded line d packet room f ∙ packet-in line good
+
 module _ (p : Profile) (m : Station) (line : List ℕ) where
   -- 0200, and nothing changed.
   pub line-refused : (at end : ℕ) (text t : List ℕ) → isPacket line ≡ false → Says (closing 2 0) at text end t

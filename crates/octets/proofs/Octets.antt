@@ -1,15 +1,17 @@
 -- Laws of lists of octets: what is made of octets is octets, and how large the numbers are that stand in them.
 -- Assumes nothing.
-use mathlib.Core.Bool.{_&&_}
+use mathlib.Core.Path.{_≡_}
+use mathlib.Core.Bool.{true, _&&_}
 use mathlib.Core.List.{List, [], _∷_, _++_}
 use Prim.Native.Nat.{ℕ, zero, suc, _+_, _-_, _<_}
 use native.Mathlib.Omega.{arith}
 use lib.ListN.{length, set, take, drop, replicate}
 use lib.Dec.{leb}
 use lib.Seq.{getD-drop}
-use Rattle.laws.specs.Each.{Each}
+use borrow.Author.Tests.{leb-true}
+use Rattle.laws.specs.Each.{Each, every}
 use Rattle.laws.specs.Fold.{joined}
-use Rattle.laws.proofs.Tests.{by-test}
+use Rattle.laws.proofs.Tests.{by-test, both}
 use Rattle.octets.specs.Numbers.{Octets, word16, word32, octets16, octets32}
 use Rattle.octets.specs.Copy.{laid, between}
 
@@ -23,6 +25,14 @@ one-more x s small rest (suc k) = rest k
 pub octets-of : (s : List ℕ) → Each (λ (x : ℕ). x < 256) s → Octets s
 octets-of [] h = λ k. omega arith
 octets-of (x ∷ s) h = one-more x s (h .0) (octets-of s (h .1))
+
+-- And where a test of each says so, which of a list of numerals is computed.
+pub octets-tested : (s : List ℕ) → every (λ (x : ℕ). leb x 255) s ≡ true → Octets s
+unfolding every
+octets-tested [] h = octets-of [] tt
+octets-tested (x ∷ s) h =
+    let b = both (leb x 255) (every (λ (y : ℕ). leb y 255) s) h in
+    one-more x s (omega (arith, leb-true x 255 (b .0))) (octets-tested s (b .1))
 
 -- Two lists of octets joined are a list of octets.
 pub append-octets : (s t : List ℕ) → Octets s → Octets t → Octets (s ++ t)

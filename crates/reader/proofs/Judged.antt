@@ -3,10 +3,11 @@
 use mathlib.Core.Path.{_≡_}
 use mathlib.Core.Bool.{true, false}
 use mathlib.Core.List.{List}
-use Prim.Native.Nat.{ℕ, min, _≤_, _<_}
+use Prim.Native.Nat.{ℕ, _-_, min, _≤_, _<_}
 use lib.ListN.{length}
 use lib.Dec.{eqb}
-use borrow.Author.Tests.{le-leb, lt-leb}
+use borrow.Author.Tests.{le-leb, lt-leb, eq-eqb, eqb-true}
+use Rattle.octets.specs.Numbers.{word16}
 use Rattle.checks.specs.declared.Check.the-variants.{Short, Length, Control, Header}
 use Rattle.checks.specs.declared.Verdict.the-variants.{Accepted, Refused}
 use Rattle.checks.specs.Verdict.{refusal}
@@ -14,6 +15,18 @@ use Rattle.checks.specs.Table.{answer}
 use Rattle.tc.specs.Layout.{rightControl}
 use Rattle.reader.specs.Reader.{leastOctets, mostDetail, judged, readerRows, controlRight}
 use Rattle.heading.specs.Heading.{lengthRight, headerFault}
+
+-- ---- what check 2 asks
+
+pub control-right : (p : List ℕ) → word16 p (length p - 2) ≡ rightControl p → controlRight p ≡ true
+unfolding controlRight
+control-right p e = eq-eqb _ _ e
+
+pub control-is : (p : List ℕ) → controlRight p ≡ true → word16 p (length p - 2) ≡ rightControl p
+unfolding controlRight
+control-is p t = eqb-true _ _ t
+
+-- ---- the verdict
 
 module _ (p : List ℕ) where
   pub judged-short : length p < leastOctets → judged p ≡ Refused (refusal Short 0)

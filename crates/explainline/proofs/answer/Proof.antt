@@ -10,7 +10,7 @@ use Rattle.laws.proofs.Tests.{refused, passed}
 use Rattle.characters.specs.Digits.{octetsIn}
 use Rattle.saying.proofs.Saying.{says-as}
 use Rattle.packetline.specs.Packet.{isPacket}
-use Rattle.hexline.proofs.Serving.{decoded, packet-in}
+use Rattle.hexline.proofs.Serving.{line-octets}
 use Rattle.explaining.specs.Explanation.{explanationOf}
 use Rattle.explainline.specs.Line.{explanationText}
 use Rattle.explainline.proofs.Lines.{explain-bad, explain-packet}
@@ -67,7 +67,7 @@ returns-2 c =
     let s = k .before .before .before .args in
     let line : List ℕ = now (s .line) in
     let good : isPacket line ≡ true = passed (k .is-packet .ensures) (i .if1 .left) in
-    let octets : now (f .front .result) ≡ octetsIn line = f .front .ensures ∙ decoded line (replicate 2048 0) (d .decode .last .1 .0) refl (d .decode .ensures) ∙ packet-in line good in
+    let octets : now (f .front .result) ≡ octetsIn line = f .front .ensures ∙ line-octets line (replicate 2048 0) (d .decode .last .1 .0) good refl (d .decode .ensures) in
     let said : e .explain .result ≡ explanationOf (s .profile) (octetsIn line) = e .explain .ensures ∙ ap (explanationOf (s .profile)) octets in
     says-as (ap explanationText said ∙ sym (explain-packet (s .profile) line good)) (t .put-explanation .ensures)
 

@@ -10,7 +10,7 @@ use Rattle.laws.proofs.Tests.{refused, passed}
 use Rattle.characters.specs.Digits.{octetsIn}
 use Rattle.saying.proofs.Saying.{says-as}
 use Rattle.packetline.specs.Packet.{isPacket}
-use Rattle.hexline.proofs.Serving.{decoded, packet-in}
+use Rattle.hexline.proofs.Serving.{line-octets}
 use Rattle.frametext.specs.Text.{frameText}
 use Rattle.frameline.proofs.Lines.{says-bad, says-frame}
 use borrow.Author.Needs.{needs}
@@ -62,7 +62,7 @@ returns-2 c =
     let s = k .before .before .before in
     let line : List ℕ = now (s .args .line) in
     let good : isPacket line ≡ true = passed (k .is-packet .ensures) (i .if1 .left) in
-    let octets : now (f .front .result) ≡ octetsIn line = f .front .ensures ∙ decoded line (replicate 2048 0) (d .decode .last .1 .0) refl (d .decode .ensures) ∙ packet-in line good in
+    let octets : now (f .front .result) ≡ octetsIn line = f .front .ensures ∙ line-octets line (replicate 2048 0) (d .decode .last .1 .0) good refl (d .decode .ensures) in
     says-as (ap frameText octets ∙ sym (says-frame line good)) (p .put-frame .ensures)
 
 pub answer-spec : {M : Type 1} → statement M
