@@ -1,7 +1,7 @@
 -- The greatest value of a text's characters is below 16 just where all of them are digits.
 -- Assumes nothing.
 use mathlib.Core.Path.{◌≡◌, refl, sym, ap, ◌∙◌}
-use mathlib.Core.Bool.{◌&&◌, and_assoc, and_true, and_false}
+use mathlib.Core.Bool.{◌&&◌, and_assoc, and-true, and-false}
 use mathlib.Core.List.{List}
 use Prim.Native.Nat.{ℕ, ◌+◌, ◌≤◌, ◌<◌}
 use native.Mathlib.Omega.{arith}
@@ -39,8 +39,8 @@ pub tells_raised : (s : List ℕ) (i most : ℕ) → i < length s → most < val
 tells_raised s i most h large =
     let v = value_of (get_or s i 0) in
     tells_on s i most v h
-    (by_order 16 v (λ other. rw (le-ltb v 16 other, and_false) refl) (λ below. rw (lt-ltb v 16 below, lt-ltb most 16 (omega (arith, large))) refl))
+    (by_order 16 v (λ other. rw (le-ltb v 16 other, and-false) refl) (λ below. rw (lt-ltb v 16 below, lt-ltb most 16 (omega (arith, large))) refl))
 
 pub tells_all : (s : List ℕ) (most : ℕ) → Tells s most (length s) → ltb most 16 ≡ all_digits_of s
 unfolding all_digits_of
-tells_all s most told = sym (and_true (ltb most 16)) ∙ ap (λ rest. ltb most 16 && all_digits_of rest) (sym (drop-length s)) ∙ told
+tells_all s most told = sym (and-true (ltb most 16)) ∙ ap (λ rest. ltb most 16 && all_digits_of rest) (sym (drop-length s)) ∙ told

@@ -1,6 +1,6 @@
 -- No clause is told where the profile is sound over a store that may be lent, and nowhere else.
 -- Assumes nothing.
-use mathlib.Core.Bool.{Bool, true, false, cond, ◌&&◌, and_assoc, and_true}
+use mathlib.Core.Bool.{Bool, true, false, cond, ◌&&◌, and_assoc, and-true}
 use mathlib.Core.List.{List, [], ◌∷◌}
 use mathlib.Core.Path.{◌≡◌, refl, sym, ap, ◌∙◌}
 use Prim.Native.Nat.{ℕ, suc, ◌+◌, ◌%◌, ◌^◌}
@@ -30,13 +30,13 @@ own_sound octets i a =
       behind (leb 1 a.length) _ _ refl,
       behind (leb (a.start + a.length) (2 ^ 32)) _ _ refl,
       behind (leb (octets_of a (a.first + a.length)) octets) _ _ refl,
-      and_true,
+      and-true,
     )
 
 pub pair_sound_lem : (i : ℕ) (a : Area) (j : ℕ) (b : Area) → is_sound (pair_clause i a j b) ≡ pair_sound a b
 unfolding pair_clause pair_sound
 pair_sound_lem i a j b =
-    by-test (eqb a.id b.id) (λ same. rw same) (λ differ. rw (differ, behind (apart a b) _ _ refl, and_true))
+    by-test (eqb a.id b.id) (λ same. rw same) (λ differ. rw (differ, behind (apart a b) _ _ refl, and-true))
 
 pub each_own_sound : (octets i : ℕ) (l : List Area) → is_sound (own_from octets i l) ≡ every (area_sound octets) l
 unfolding own_from every

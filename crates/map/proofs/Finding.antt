@@ -42,7 +42,7 @@ found_id id (x ∷ rest) a h =
     (cond_cases (eqb x.id id) (At x) (find_in id rest) (At a) h)
 
 -- Where memory IDs differ, each area is the one that is found by its memory ID.
-pub member_found : {l : List Area} {a : Area} → Memᴰ a l → every_pair l ≡ true → find_in a.id l ≡ At a
+pub member_found : {a : Area} {l : List Area} → Memᴰ a l → every_pair l ≡ true → find_in a.id l ≡ At a
 unfolding find_in every_pair
 member_found {a = a} (Memᴰ.head {x} {xs} e) h = rw (eq-eqb x.id a.id (ap (λ (b : Area). b.id) (sym e))) (ap At (sym e))
 member_found {a = a} (Memᴰ.tail {x} {xs} m) h =
