@@ -1,6 +1,6 @@
 -- What goes from line to line in a program over lines: its desk, the store and the output buffer.
 use Rattle.std.specs.Prelude.{ℕ, Bool, true, not, List, ◌==◌}
-use Rattle.std.specs.Borrow.{Bor}
+use Rattle.std.specs.Borrow.{MutBor}
 use Rattle.map.specs.declared.Profile.{Profile}
 use Rattle.counts.specs.Counts.{no_counts}
 use Rattle.decide.specs.declared.State.{State}
@@ -20,7 +20,7 @@ pub record Place : Type 0 where
   pub out : List ℕ
 
 -- The desk, the store and the buffer that a function is lent.
-abbrev pub place_of : Desk → Bor (List ℕ) → Bor (List ℕ) → Place
+abbrev pub place_of : Desk → MutBor (List ℕ) → MutBor (List ℕ) → Place
 place_of desk store out = record { desk = desk; store = store.now; out = out.now }
 
 -- A desk before the first line: counts of 0, no line passed, no group, nothing that stops the program.

@@ -1,6 +1,6 @@
 -- What a caller is promised of an answer that is written into a text from a place on.
 use Rattle.std.specs.Prelude.{◌≡◌, List, ℕ}
-use Rattle.std.specs.Borrow.{Bor}
+use Rattle.std.specs.Borrow.{MutBor}
 use Rattle.lines.specs.Feed.{Lent}
 use Rattle.saying.specs.Text.{Says}
 use Rattle.map.specs.declared.Profile.{Profile}
@@ -11,7 +11,7 @@ use Rattle.hexline.specs.declared.Written.{Written}
 use Rattle.hexline.specs.Line.{Station, packet_input, packet_in}
 
 -- The state, the store and the output buffer that a function is lent.
-abbrev pub station_of : State → Bor (List ℕ) → Bor (List ℕ) → Station
+abbrev pub station_of : State → MutBor (List ℕ) → MutBor (List ℕ) → Station
 station_of state store out = record { machine = record { state = state; store = store.now }; out = out.now }
 
 -- Every part of the outcome, by an equation.

@@ -1,6 +1,6 @@
 -- Programs that answer whole lines, and what a caller is promised of a program that is fed the input at the front of its buffer.
 use Rattle.std.specs.Prelude.{◌≡◌, Bool, cond, List, [], ℕ, ◌+◌, min, length, take, drop, leb}
-use Rattle.std.specs.Borrow.{Bor}
+use Rattle.std.specs.Borrow.{Bor, MutBor}
 use denote.Triple.Both.{Both}
 use Rattle.octets.specs.Copy.{laid}
 use Rattle.lines.specs.declared.End.{End}
@@ -56,7 +56,7 @@ module _ {M : Type 0} (p : LineProgram M) where
 
 -- A slice that a function is lent: as it stands when the function is called, and when it returns.
 abbrev pub Lent : Type 0
-Lent = Both (Bor (List ℕ)) (Bor (List ℕ))
+Lent = Both (MutBor (List ℕ)) (MutBor (List ℕ))
 
 -- What a program's walk over the whole pieces of an input promises: what is left stands from a place on, and what is said at the front of the text.
 pub record Walked {M : Type 0} (t : Turn M) (input text : List ℕ) (w : Walk) (after : M) (text' : List ℕ) : Type 0 where

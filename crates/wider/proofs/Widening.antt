@@ -58,7 +58,7 @@ covered_by (x ∷ rest) a h =
     (λ c. let r = covered_by rest a c in (r.0, Memᴰ.tail r.1, r.2))
     (or_cases (covers x a) (covered rest a) h)
 
-pub member_covers : {l : List Area} {b : Area} (a : Area) → Memᴰ b l → covers b a ≡ true → covered l a ≡ true
+pub member_covers : {b : Area} {l : List Area} (a : Area) → Memᴰ b l → covers b a ≡ true → covered l a ≡ true
 unfolding covered
 member_covers a (Memᴰ.head {x} {xs} e) h = rw (← e, h)
 member_covers a (Memᴰ.tail {x} {xs} m) h = or_right (covers x a) (covered xs a) (member_covers a m h)
