@@ -22,14 +22,14 @@ const WORD_SIZE: u32 = 2;
 const RIGHTS: u8 = 3;
 
 // An area, or what is wrong with its words; then the area is blank.
-#[derive(Drop)]
+#[derive(Clone, Copy)]
 pub struct Stated {
     pub area: Area,
     pub fault: u8,
 }
 
 // The four numbers of an area, what is wrong with them, and the place behind them.
-#[derive(Drop)]
+#[derive(Clone, Copy)]
 struct Numbers {
     id: u32,
     start: u32,

@@ -3,7 +3,7 @@ pub mod reading;
 pub mod shape;
 
 // A block of service 6 data.
-#[derive(Drop)]
+#[derive(Clone, Copy)]
 pub struct Block {
     // Where it begins in the application data.
     pub at: usize,
@@ -16,7 +16,7 @@ pub struct Block {
 }
 
 // Whether blocks are well formed, and if not the detail of refusal 5.
-#[derive(Drop)]
+#[derive(Clone, Copy)]
 pub enum Form {
     Right,
     Wrong(u16),

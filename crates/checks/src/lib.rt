@@ -3,7 +3,7 @@ ghost use Rattle.std.specs.Prelude.{◌≡◌};
 ghost use Rattle.checks.specs.Verdict.{check_number, is_accepted, number_of, detail_of, silent};
 
 // The checks, in checking order.
-#[derive(Drop)]
+#[derive(Clone, Copy)]
 pub enum Check {
     // The output buffer is below 4,096 octets.
     Buffer,
@@ -34,14 +34,14 @@ pub enum Check {
 }
 
 // A check that failed, and its detail; 0 where it has none.
-#[derive(Drop)]
+#[derive(Clone, Copy)]
 pub struct Refusal {
     pub check: Check,
     pub detail: u16,
 }
 
 // What a packet is answered: acceptance, or the refusal of the first check that fails.
-#[derive(Drop)]
+#[derive(Clone, Copy)]
 pub enum Verdict {
     Accepted,
     Refused(Refusal),

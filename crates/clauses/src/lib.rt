@@ -9,7 +9,7 @@ use map::{Area, Profile, end_of};
 use sound::lie_apart;
 
 // The clauses of soundness, with the areas that fail one, counted from 1, and the first octet of the store that two of them share.
-#[derive(Drop)]
+#[derive(Clone, Copy)]
 pub enum Clause {
     Sound,
     OddStore,

@@ -8,7 +8,7 @@ use decide::State;
 use map::{Area, Flags, Profile, Rights};
 
 // The terminal's profile, counts and time, and the lengths of its store and its output buffer.
-#[derive(Drop)]
+#[derive(Clone, Copy)]
 pub struct Session {
     pub profile: Profile,
     pub state: State,

@@ -7,7 +7,7 @@ ghost use Rattle.contents.specs.Source.{dump_head_size, entry_at, lengths_right_
 use octets::copy::Span;
 
 // The kinds of reports, by type and subtype.
-#[derive(Drop)]
+#[derive(Clone, Copy)]
 pub enum Kind {
     // (1,1)
     Acceptance,
@@ -26,14 +26,14 @@ pub enum Kind {
 }
 
 // What a report of service 1 repeats of a TC: its packet ID and sequence control.
-#[derive(Drop)]
+#[derive(Clone, Copy)]
 pub struct Echo {
     pub packet: u16,
     pub control: u16,
 }
 
 // A refusal: the TC's, the code and the detail.
-#[derive(Drop)]
+#[derive(Clone, Copy)]
 pub struct Failed {
     pub echo: Echo,
     pub code: u16,
@@ -41,7 +41,7 @@ pub struct Failed {
 }
 
 // A dump: the memory ID, the block's start and length, and where in the frame its words stand.
-#[derive(Drop)]
+#[derive(Clone, Copy)]
 pub struct Dumped {
     pub memory: u8,
     pub start: u32,
@@ -50,7 +50,7 @@ pub struct Dumped {
 }
 
 // A check: the memory ID, how many blocks there are, and where in the frame their entries stand.
-#[derive(Drop)]
+#[derive(Clone, Copy)]
 pub struct Checked {
     pub memory: u8,
     pub blocks: u8,
@@ -58,7 +58,7 @@ pub struct Checked {
 }
 
 // What a check says of a block.
-#[derive(Drop)]
+#[derive(Clone, Copy)]
 pub struct Entry {
     pub start: u32,
     pub length: u16,
@@ -66,7 +66,7 @@ pub struct Entry {
 }
 
 // What a frame tells, by its kind; of one that is refused nothing.
-#[derive(Drop)]
+#[derive(Clone, Copy)]
 pub enum Contents {
     Accepts(Echo),
     Refuses(Failed),

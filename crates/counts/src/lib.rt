@@ -3,7 +3,7 @@ ghost use Rattle.std.specs.Prelude.{◌≡◌};
 ghost use Rattle.counts.specs.Counts.{no_counts, counts_in, next_count, category_of, count_for, counted, in_range};
 
 // A count for each category.
-#[derive(Drop)]
+#[derive(Clone, Copy)]
 pub struct Counts {
     // Of category 1: service 1.
     pub reports: u16,

@@ -10,7 +10,7 @@ use serving::Decision;
 pub mod looks;
 
 // What goes from packet to packet besides the store.
-#[derive(Drop)]
+#[derive(Clone, Copy)]
 pub struct State {
     pub counts: Counts,
 }

@@ -13,7 +13,7 @@ use unit::Draft;
 pub const LINE_STORE: usize = 128;
 
 // What goes from line to line beside the store and the output buffer: the unit, the counts, how many lines are passed, the group of a record, and what stops the program.
-#[derive(Drop)]
+#[derive(Clone, Copy)]
 pub struct Desk {
     pub draft: Draft,
     pub state: State,
@@ -23,7 +23,7 @@ pub struct Desk {
 }
 
 // How far the text has come, and what goes on.
-#[derive(Drop)]
+#[derive(Clone, Copy)]
 pub struct Done {
     pub at: usize,
     pub desk: Desk,

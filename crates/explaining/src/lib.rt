@@ -7,7 +7,7 @@ use map::Profile;
 use octets::copy::Span;
 
 // The number of the check that fails and its detail, and the first and the last offset of its octets; the last stands before the first where there are none.
-#[derive(Drop)]
+#[derive(Clone, Copy)]
 pub struct Reason {
     pub number: u16,
     pub detail: u16,
@@ -16,7 +16,7 @@ pub struct Reason {
 }
 
 // What is said of a packet: it is accepted, or why it is refused.
-#[derive(Drop)]
+#[derive(Clone, Copy)]
 pub enum Explanation {
     Accepted,
     Because(Reason),

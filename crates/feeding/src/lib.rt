@@ -14,14 +14,14 @@ use tasks::Task;
 const ANSWER_ROOM: usize = 16384;
 
 // How far a walk over the pieces of an input has come, and the desk.
-#[derive(Drop)]
+#[derive(Clone, Copy)]
 struct Walked {
     walk: Walk,
     desk: Desk,
 }
 
 // How far the program has come, and its desk.
-#[derive(Drop)]
+#[derive(Clone, Copy)]
 pub struct Progress {
     pub lines: lines::Progress,
     pub desk: Desk,

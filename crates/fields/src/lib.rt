@@ -4,7 +4,7 @@ ghost use Rattle.octets.specs.Numbers.{word16};
 ghost use Rattle.fields.specs.Fields.{packet_id, id_of, sequence, control_of, header, header_of, apid_of};
 
 // A packet ID's fields: version 3 bits, type 1 bit, data field header flag 1 bit, APID 11 bits.
-#[derive(Drop)]
+#[derive(Clone, Copy)]
 pub struct PacketId {
     pub version: u16,
     pub kind: u16,
@@ -13,14 +13,14 @@ pub struct PacketId {
 }
 
 // A sequence control's fields: flags 2 bits, count 14 bits.
-#[derive(Drop)]
+#[derive(Clone, Copy)]
 pub struct Sequence {
     pub flags: u16,
     pub count: u16,
 }
 
 // The fields of the first octet of a TC's data field header: PUS version 3 bits, checksum flag 1 bit, ack 4 bits.
-#[derive(Drop)]
+#[derive(Clone, Copy)]
 pub struct Header {
     pub version: u16,
     pub checksum: u16,

@@ -6,7 +6,7 @@ ghost use Rattle.grouping.specs.Group.{no_group, due_at, opened, compared, close
 const FRAME_ROOM: usize = 4096;
 
 // A group of a record: whether a line stands in one, between which places of the output buffer the frames stand that are due and not compared yet, and the line of its packet; and of the whole record whether it has a packet, and how many packets and frames were compared.
-#[derive(Drop)]
+#[derive(Clone, Copy)]
 pub struct Group {
     pub open: bool,
     pub some: bool,

@@ -14,7 +14,7 @@ use terminal::Outcome;
 pub const PACKET_ROOM: usize = 2048;
 
 // How far the answers have come: the place of the next one in the text, and the counts.
-#[derive(Drop)]
+#[derive(Clone, Copy)]
 pub struct Written {
     pub at: usize,
     pub state: State,

@@ -11,7 +11,7 @@ const ALL_ONES: u16 = 0xFF;
 const MODULUS: u16 = 255;
 
 // The two sums.
-#[derive(Drop)]
+#[derive(Clone, Copy)]
 struct Sums {
     c0: u16,
     c1: u16,

@@ -14,7 +14,7 @@ use packline::Halt;
 pub const DIFFERS: u8 = 4;
 
 // What a line inside of a group is found to be, beside the frame due: it agrees, it differs, or it is no packet line.
-#[derive(Drop)]
+#[derive(Clone, Copy)]
 pub enum Found {
     Agrees,
     Differs,

@@ -16,14 +16,14 @@ use tm::Stamp;
 const PLACES: usize = 65536;
 
 // Whose reports they are, and their time.
-#[derive(Drop)]
+#[derive(Clone, Copy)]
 pub struct Sender {
     pub pid: u8,
     pub time: [u8; 6],
 }
 
 // How far an answer has come: the place of the next report in the output buffer, and the counts.
-#[derive(Drop)]
+#[derive(Clone, Copy)]
 pub struct Progress {
     pub at: u16,
     pub counts: Counts,

@@ -7,7 +7,7 @@ ghost use Rattle.lines.specs.Cuts.{started, next_of, rest_of, ends_line, left_of
 pub const NEWLINE: u8 = 10;
 
 // How a piece of a line ends: the line goes on behind it, its newline ended it, or the input did.
-#[derive(Drop)]
+#[derive(Clone, Copy)]
 pub enum End {
     On,
     Newline,
@@ -15,14 +15,14 @@ pub enum End {
 }
 
 // What stands at the front of some input: a piece of so many characters and how it ends, or no whole piece.
-#[derive(Drop)]
+#[derive(Clone, Copy)]
 pub enum Cut {
     Piece(usize, End),
     More,
 }
 
 // How far a walk over the pieces of an input has come: where the next one begins, whether it begins a line, whether no whole one is left, and how much text is said.
-#[derive(Drop)]
+#[derive(Clone, Copy)]
 pub struct Walk {
     pub from: usize,
     pub begins: bool,
@@ -31,7 +31,7 @@ pub struct Walk {
 }
 
 // How far a program has come: how much input is not answered and stands at the front of its buffer, whether that begins a line, whether no whole piece is left in it, and how much text is said.
-#[derive(Drop)]
+#[derive(Clone, Copy)]
 pub struct Progress {
     pub have: usize,
     pub begins: bool,

@@ -5,7 +5,7 @@ ghost use Rattle.map.specs.Place.{octets_of};
 pub mod place; // place.rt: which area has a memory ID, and where its words stand in the store
 
 // What may be done in an area.
-#[derive(Drop)]
+#[derive(Clone, Copy)]
 pub struct Rights {
     pub load: bool,
     pub dump: bool,
@@ -13,7 +13,7 @@ pub struct Rights {
 }
 
 // Which services are offered.
-#[derive(Drop)]
+#[derive(Clone, Copy)]
 pub struct Flags {
     pub load: bool,
     pub dump: bool,
@@ -22,7 +22,7 @@ pub struct Flags {
 }
 
 // Some consecutive addresses of one memory, and where their words stand in the store. In this order a profile's areas have no gaps: programs carry them by value from line to line.
-#[derive(Drop)]
+#[derive(Clone, Copy)]
 pub struct Area {
     // The address of the first word.
     pub start: u32,
@@ -36,7 +36,7 @@ pub struct Area {
 }
 
 // Who is addressed, which services it offers, and its areas: the first `count` places of `areas`.
-#[derive(Drop)]
+#[derive(Clone, Copy)]
 pub struct Profile {
     pub pid: u8,
     pub flags: Flags,
@@ -45,7 +45,7 @@ pub struct Profile {
 }
 
 // The area that has a memory ID, if any has.
-#[derive(Drop)]
+#[derive(Clone, Copy)]
 pub enum Found {
     At(Area),
     Nothing,

@@ -4,7 +4,7 @@ ghost use Rattle.saying.specs.Text.{SaysBy};
 ghost use Rattle.numerals.specs.Numbers.{number_most, is_prefixed, has_leading_zero, stated_by, numeral_of, decimal_from, decimal_of};
 
 // The number that a word states; one that is too large; or no number.
-#[derive(Drop)]
+#[derive(Clone, Copy)]
 pub enum Numeral {
     Is(u32),
     Large,

@@ -3,7 +3,7 @@ ghost use Rattle.std.specs.Prelude.{◌≡◌, ◌-◌, min, length, drop};
 ghost use Rattle.octets.specs.Copy.{laid, between, Hands};
 
 // A part of a slice, by the places where it begins and ends.
-#[derive(Drop)]
+#[derive(Clone, Copy)]
 pub struct Span {
     pub from: usize,
     pub to: usize,

@@ -16,7 +16,7 @@ const STORE_MOST: u32 = 65536;
 const SERVICES: u8 = 4;
 
 // The number of an item that stands once, and what is wrong with it.
-#[derive(Drop)]
+#[derive(Clone, Copy)]
 struct Once {
     value: u32,
     fault: u8,

@@ -21,7 +21,7 @@ pub const CHARACTER: u8 = 2;
 pub const ODD: u8 = 3;
 
 // Why a program stops at a line, and for a character its place, from 1, and its octet.
-#[derive(Drop)]
+#[derive(Clone, Copy)]
 pub struct Halt {
     pub kind: u8,
     pub place: usize,

@@ -11,7 +11,7 @@ use unit::{Draft, Stated};
 const NUMBER_MOST: u32 = 4294967295;
 
 // Where octets are put, from which place of the line on they stand, and what is wrong with them.
-#[derive(Drop)]
+#[derive(Clone, Copy)]
 struct Putting {
     to: u32,
     at: usize,

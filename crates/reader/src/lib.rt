@@ -10,7 +10,7 @@ use tc::Fields;
 const LEAST: usize = 6;
 
 // What the reader returns: the verdict, the fields, and the part of the packet that is its application data; where the packet is refused all fields are 0 and the part is empty.
-#[derive(Drop)]
+#[derive(Clone, Copy)]
 pub struct Reading {
     pub verdict: Verdict,
     pub fields: Fields,

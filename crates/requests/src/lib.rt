@@ -6,7 +6,7 @@ ghost use Rattle.requests.specs.Request.{serves, asked_for, memory_asked, offers
 use map::{Area, Flags, Rights};
 
 // What a TC of service 6 asks for: (6,2), (6,5) or (6,9).
-#[derive(Drop)]
+#[derive(Clone, Copy)]
 pub enum Action {
     Load,
     Dump,
@@ -14,7 +14,7 @@ pub enum Action {
 }
 
 // What can be asked of a service.
-#[derive(Drop)]
+#[derive(Clone, Copy)]
 pub enum Request {
     // Of service 6.
     Memory(Action),
@@ -23,7 +23,7 @@ pub enum Request {
 }
 
 // What a type and subtype ask for, if they are known.
-#[derive(Drop)]
+#[derive(Clone, Copy)]
 pub enum Asked {
     Known(Request),
     Unknown,

@@ -11,14 +11,14 @@ use octets::copy::Span;
 use requests::Action;
 
 // What service 6 is to do, and on which area.
-#[derive(Drop)]
+#[derive(Clone, Copy)]
 pub struct Job {
     pub action: Action,
     pub area: Area,
 }
 
 // What an accepted packet has the terminal do.
-#[derive(Drop)]
+#[derive(Clone, Copy)]
 pub enum Task {
     Idle,
     Memory(Job),
@@ -26,7 +26,7 @@ pub enum Task {
 }
 
 // What was found on the way to acceptance, and is handed on: the task, the ack, and the part of the packet that is its application data.
-#[derive(Drop)]
+#[derive(Clone, Copy)]
 pub struct Work {
     pub task: Task,
     pub ack: u8,
@@ -34,7 +34,7 @@ pub struct Work {
 }
 
 // What is decided on a packet: the verdict, and the work of one that is accepted.
-#[derive(Drop)]
+#[derive(Clone, Copy)]
 pub struct Decision {
     pub verdict: Verdict,
     pub work: Work,

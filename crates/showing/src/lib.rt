@@ -18,7 +18,7 @@ const ROOM_AT: usize = 7;
 const PACKET_ROOM: usize = 65536;
 
 // The session, and the place behind the text.
-#[derive(Drop)]
+#[derive(Clone, Copy)]
 pub struct Served {
     pub session: Session,
     pub at: usize,

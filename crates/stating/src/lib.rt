@@ -10,7 +10,7 @@ use numerals::Numeral;
 pub mod fault; // fault.rt: what is wrong with a line, by number
 
 // A number, what is wrong with it, and the place behind its word.
-#[derive(Drop)]
+#[derive(Clone, Copy)]
 pub struct Valued {
     pub value: u32,
     pub fault: u8,
@@ -18,14 +18,14 @@ pub struct Valued {
 }
 
 // Flags that words name, and what is wrong with the first word that names none.
-#[derive(Drop)]
+#[derive(Clone, Copy)]
 pub struct Named {
     pub flags: Flags,
     pub fault: u8,
 }
 
 // How many octets words state, and what is wrong with the first word that states none.
-#[derive(Drop)]
+#[derive(Clone, Copy)]
 pub struct Counted {
     pub count: usize,
     pub fault: u8,

@@ -8,7 +8,7 @@ ghost use Rattle.tasks.specs.Tasks.{line_says, line_becomes, task_says, task_bec
 use desk::{Desk, Done};
 
 // Which program it is.
-#[derive(Drop)]
+#[derive(Clone, Copy)]
 pub enum Task {
     Line,
     Unit,

@@ -13,7 +13,7 @@ pub const HEAD: usize = 10;
 pub const AROUND: usize = 12;
 
 // The methods of error control.
-#[derive(Drop)]
+#[derive(Clone, Copy)]
 pub enum Method {
     // Checksum flag 0: the ISO checksum.
     Iso,
@@ -22,7 +22,7 @@ pub enum Method {
 }
 
 // What a TC packet carries besides its application data.
-#[derive(Drop)]
+#[derive(Clone, Copy)]
 pub struct Fields {
     pub apid: u16,
     pub count: u16,

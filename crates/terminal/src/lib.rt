@@ -10,7 +10,7 @@ use map::Profile;
 mod act; // act.rt: what an accepted packet does, and its reports
 
 // What a packet is answered: the verdict, the octets written at the front of the output buffer, and the state afterwards.
-#[derive(Drop)]
+#[derive(Clone, Copy)]
 pub struct Outcome {
     pub verdict: Verdict,
     pub written: usize,

@@ -19,7 +19,7 @@ pub const UNCOUNTED: usize = 7;
 const FIELD: usize = 65536;
 
 // What a frame carries before its source data: whose it is, the count of its category, the time, and what it reports.
-#[derive(Drop)]
+#[derive(Clone, Copy)]
 pub struct Stamp {
     pub pid: u8,
     pub count: u16,

@@ -8,7 +8,7 @@ use octets::copy::Span;
 use tm::{HEAD, Stamp, TIME_FIRST, UNCOUNTED};
 
 // The checks of a frame, in checking order.
-#[derive(Drop)]
+#[derive(Clone, Copy)]
 pub enum Flaw {
     // Fewer than 16 octets, or not the length field plus 7.
     Size,
@@ -21,14 +21,14 @@ pub enum Flaw {
 }
 
 // What a frame is answered: that it reads cleanly, or the first check that fails.
-#[derive(Drop)]
+#[derive(Clone, Copy)]
 pub enum Verdict {
     Clean,
     Refused(Flaw),
 }
 
 // What the reader returns: the verdict, the stamp, the part of the frame that is its source data, and what that tells; where the frame is refused all fields are 0, the part is empty and nothing is told.
-#[derive(Drop)]
+#[derive(Clone, Copy)]
 pub struct Reading {
     pub verdict: Verdict,
     pub stamp: Stamp,

@@ -8,7 +8,7 @@ use map::{Area, Flags, Profile, Rights};
 use stating::fault;
 
 // The unit so far: its profile, which items that stand once are stated, and how many octets its store has.
-#[derive(Drop)]
+#[derive(Clone, Copy)]
 pub struct Draft {
     pub profile: Profile,
     pub pid: bool,
@@ -18,7 +18,7 @@ pub struct Draft {
 }
 
 // The unit behind a line, and what is wrong with the line.
-#[derive(Drop)]
+#[derive(Clone, Copy)]
 pub struct Stated {
     pub draft: Draft,
     pub fault: u8,

@@ -22,7 +22,7 @@ const BAD_DATA: u16 = 51;
 const NO_ROOM: u16 = 52;
 
 // What the writer is asked to put into a packet besides its application data.
-#[derive(Drop)]
+#[derive(Clone, Copy)]
 pub struct Order {
     pub pid: u8,
     pub count: u16,
@@ -33,7 +33,7 @@ pub struct Order {
 }
 
 // What the writer answers.
-#[derive(Drop)]
+#[derive(Clone, Copy)]
 pub enum Written {
     // The packet's length.
     Packet(usize),
