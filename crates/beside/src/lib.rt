@@ -1,4 +1,6 @@
 // A TM line in digits beside the frame that is due there: where they part, and whether they agree.
+#![tactic(auto)]
+
 ghost use Rattle.std.specs.Prelude.{◌≡◌, not, ◌||◌, ◌+◌, ◌*◌, ◌%◌, ◌<◌, eqb, length, get_or};
 ghost use Rattle.characters.specs.Digits.{value_of, octets_in};
 ghost use Rattle.beside.specs.Beside.{is_time, parting_of, agrees};
@@ -51,6 +53,7 @@ pub fn parting(due: &[u8], line: &[u8]) -> usize
 }
 
 // Whether they agree: they end at one place, and before it differ in nothing but the time.
+#[tactic(auto, using(crate::proofs::Places::parted_before, crate::proofs::Places::parted_behind))]
 pub fn agree(due: &[u8], line: &[u8]) -> bool
     ensures { result ≡ agrees due.now (octets_in line.now) }
 {

@@ -1,4 +1,6 @@
 // Application data of service 6: its blocks, and whether it is well formed.
+#![tactic(auto)]
+
 pub mod reading;
 pub mod shape;
 

@@ -1,11 +1,15 @@
 // The program `cases`: the terminal, the reader, the writer and the CRC over lines of text, one command a line.
+#![tactic(auto)]
+
 use commands::form::{GIVEN_MOST, LINE_MOST};
 use commands::session;
 use commands::session::{OUT_ROOM, STORE_ROOM, Session};
-use console::Got;
+use console::{Console, Got};
 use lines::{Cut, End, Walk};
 use replies::Octets;
 use showing::Served;
+use std::io::{Read, Write};
+use std::process::ExitCode;
 
 // What holds the input that is not answered yet: more than the longest line and its newline.
 const INPUT_ROOM: usize = 262144;
@@ -20,7 +24,7 @@ const TEXT_ROOM: usize = 327680;
 type Text = [u8; TEXT_ROOM];
 
 // Whether to go on, whether the input has ended, the session, how much input waits, and how far the walk over it has come.
-#[derive(Drop)]
+#[derive(Clone, Copy)]
 struct Next {
     on: bool,
     ended: bool,
@@ -30,23 +34,41 @@ struct Next {
 }
 
 // Whether to go on, and where the next text goes.
-#[derive(Drop)]
+#[derive(Clone, Copy)]
 struct Written {
     on: bool,
     at: usize,
 }
 
-fn main() {
+fn main(rt: HostRuntime) -> ExitCode {
+    let mut console = console::start(b"cases", rt.stdout(), rt.stderr());
     let mut input = [0u8; INPUT_ROOM];
     let mut octets = [0u8; GIVEN_MOST];
     let mut store = [0u8; STORE_ROOM];
     let mut out = [0u8; OUT_ROOM];
     let mut text = [0u8; TEXT_ROOM];
-    run(&mut input, &mut octets, &mut store, &mut out, &mut text);
+    run(
+        &mut console,
+        &mut rt.stdin(),
+        &mut input,
+        &mut octets,
+        &mut store,
+        &mut out,
+        &mut text,
+    );
+    console::status(&console)
 }
 
 // Serves the input to its end. A proved loop has to end, and nothing says that an input does: the turns are counted down from a number that no run uses up.
-fn run(input: &mut Input, octets: &mut Octets, store: &mut [u8], out: &mut [u8], text: &mut Text) {
+fn run<O: Write + Drop, E: Write + Drop, F: Read>(
+    console: &mut Console<O, E>,
+    file: &mut F,
+    input: &mut Input,
+    octets: &mut Octets,
+    store: &mut [u8],
+    out: &mut [u8],
+    text: &mut Text,
+) {
     let mut turns = u64::MAX;
     let mut t = Next {
         on: true,
@@ -56,13 +78,15 @@ fn run(input: &mut Input, octets: &mut Octets, store: &mut [u8], out: &mut [u8],
         walk: from_front(true),
     };
     while turns > 0 && t.on {
-        t = turn(t, input, octets, store, out, text);
+        t = turn(console, file, t, input, octets, store, out, text);
         turns -= 1;
     }
 }
 
 // Serves the next piece of the input that waits; where none is left, writes out what was said and reads more.
-fn turn(
+fn turn<O: Write + Drop, E: Write + Drop, F: Read>(
+    console: &mut Console<O, E>,
+    file: &mut F,
     t: Next,
     input: &mut Input,
     octets: &mut Octets,
@@ -73,13 +97,13 @@ fn turn(
     let w = t.walk;
     let waiting = lines::front(input, t.have);
     let Cut::Piece(count, end) = cut(waiting, w.from, t.ended) else {
-        return more(t, input, text);
+        return more(console, file, t, input, text);
     };
     let piece = lines::piece(waiting, w.from, count);
     let served = serve(
         t.session, w.begins, piece, end, octets, store, out, text, w.at,
     );
-    let written = spared(text, served.at);
+    let written = spared(console, text, served.at);
     let passed = lines::passed(waiting, w, count, end, written.at);
     behind(t, served, written.on, passed)
 }
@@ -105,17 +129,23 @@ fn behind(t: Next, served: Served, on: bool, walk: Walk) -> Next {
 }
 
 // Writes out what was said; then, unless the input has ended, keeps what is there of the next line and reads behind it.
-fn more(t: Next, input: &mut Input, text: &Text) -> Next {
+fn more<O: Write + Drop, E: Write + Drop, F: Read>(
+    console: &mut Console<O, E>,
+    file: &mut F,
+    t: Next,
+    input: &mut Input,
+    text: &Text,
+) -> Next {
     let w = t.walk;
     let mut next = t;
-    if !write_out(text, w.at) || t.ended {
+    if !write_out(console, text, w.at) || t.ended {
         next.on = false;
         return next;
     }
     let left = lines::carry(input, t.have, w);
     next.have = left.have;
     next.walk = from_front(left.begins);
-    match console::read(b"cases", libc::STDIN_FILENO, input, left.have) {
+    match console::read(console, file, input, left.have) {
         Got::More(have) => next.have = have,
         Got::End => next.ended = true,
         Got::Failed => next.on = false,
@@ -159,19 +189,27 @@ fn serve(
 }
 
 // Writes out the text if the next answer may find no room behind it.
-fn spared(text: &Text, at: usize) -> Written {
+fn spared<O: Write + Drop, E: Write + Drop>(
+    console: &mut Console<O, E>,
+    text: &Text,
+    at: usize,
+) -> Written {
     if at <= TEXT_ROOM - ANSWER_ROOM {
         return Written { on: true, at };
     }
-    let on = write_out(text, at);
+    let on = write_out(console, text, at);
     Written { on, at: 0 }
 }
 
 // Writes out the text up to a place, and answers whether to go on; text that found no room is a failure.
-fn write_out(text: &Text, at: usize) -> bool {
-    let on = console::write(b"cases", lines::front(text, at));
+fn write_out<O: Write + Drop, E: Write + Drop>(
+    console: &mut Console<O, E>,
+    text: &Text,
+    at: usize,
+) -> bool {
+    let on = console::write(console, lines::front(text, at));
     if TEXT_ROOM < at {
-        console::fail(b"cases", b": an answer is longer than its buffer\n");
+        console::fail(console, b": an answer is longer than its buffer\n");
         return false;
     }
     on

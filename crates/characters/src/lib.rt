@@ -1,10 +1,13 @@
 // Hexadecimal digits, and the text of octets.
+#![tactic(auto)]
+
 ghost use Rattle.std.specs.Prelude.{◌≡◌};
 ghost use Rattle.characters.specs.Digits.{value_of, upper_of, digit_of};
 
 pub mod text; // text.rt: the text of octets, and the octets of a text
 
 // The value of a character that is a digit, 0 to 9, A to F or a to f; 16 for one that is none.
+#[tactic(auto, unfolding(crate::specs::Digits::value_of))]
 pub fn value(c: u8) -> u8
     ensures { result ≡ value_of c }
 {
@@ -17,6 +20,7 @@ pub fn value(c: u8) -> u8
 }
 
 // The upper-case digit of a number's low four bits.
+#[tactic(auto, unfolding(crate::specs::Digits::digit_of))]
 pub fn digit(x: u8) -> u8
     ensures { result ≡ digit_of x }
 {
@@ -25,6 +29,7 @@ pub fn digit(x: u8) -> u8
 }
 
 // A digit a to f in upper case; any other character as it is.
+#[tactic(auto, unfolding(crate::specs::Digits::upper_of))]
 pub fn upper(c: u8) -> u8
     ensures { result ≡ upper_of c }
 {

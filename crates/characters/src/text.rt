@@ -22,6 +22,7 @@ fn put_octet(text: &mut [u8], at: usize, x: u8)
 }
 
 // Writes the text of octets from a place on; what would stand past the end is dropped.
+#[tactic(auto, using(octets::proofs::Laid::laid_past, crate::proofs::Texts::laid_text_next, crate::proofs::Texts::laid_text_full, crate::proofs::Texts::laid_text_end))]
 pub fn put_text(text: &mut [u8], at: usize, octets: &[u8])
     ensures { text.new ≡ laid text.old at (text_of octets.now) }
 {
@@ -41,6 +42,7 @@ pub fn put_text(text: &mut [u8], at: usize, octets: &[u8])
 }
 
 // Writes a text with its digits in upper case from a place on; what would stand past the end is dropped.
+#[tactic(auto, using(octets::proofs::Laid::laid_none, octets::proofs::Laid::laid_fitting, crate::proofs::Capitals::upper_length, crate::proofs::Capitals::upper_next))]
 pub fn put_upper(text: &mut [u8], at: usize, digits: &[u8])
     ensures { text.new ≡ laid text.old at (upper_text digits.now) }
 {
@@ -53,6 +55,7 @@ pub fn put_upper(text: &mut [u8], at: usize, digits: &[u8])
 }
 
 // The place of the first character of a text that is no digit, from 0; past the last one where all are digits.
+#[tactic(auto, using(crate::proofs::Places::place_pass, crate::proofs::Places::place_found, crate::proofs::Places::place_end))]
 pub fn bad_place(text: &[u8]) -> usize
     ensures { result ≡ bad_place text.now }
 {
@@ -68,6 +71,7 @@ pub fn bad_place(text: &[u8]) -> usize
 }
 
 // Whether every character of a text is a digit: whether the greatest of their values is a digit's.
+#[tactic(auto, using(crate::proofs::Greatest::tells_kept, crate::proofs::Greatest::tells_raised, crate::proofs::Greatest::tells_all))]
 pub fn all_digits(text: &[u8]) -> bool
     ensures { result ≡ all_digits_of text.now }
 {
@@ -84,6 +88,7 @@ pub fn all_digits(text: &[u8]) -> bool
 }
 
 // Lays the octets of a text over a buffer's own from a place on; those that would stand past its end are dropped.
+#[tactic(auto, using(octets::proofs::Laid::laid_past, crate::proofs::Texts::laid_octets_next, crate::proofs::Texts::laid_octets_end))]
 pub fn decode(text: &[u8], octets: &mut [u8], at: usize)
     ensures { octets.new ≡ laid octets.old at (octets_in text.now) }
 {

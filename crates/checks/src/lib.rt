@@ -1,4 +1,6 @@
 // Document 01, "Refusal numbers in checking order": the checks with their numbers, and what a packet is answered.
+#![tactic(auto)]
+
 ghost use Rattle.std.specs.Prelude.{◌≡◌};
 ghost use Rattle.checks.specs.Verdict.{check_number, is_accepted, number_of, detail_of, silent};
 

@@ -13,7 +13,7 @@ use Rattle.map.specs.Place.{areas_most, used, octets_of}
 use Rattle.map.specs.Sound.{store_most, pid_most, store_allowed, area_sound, apart, pair_sound, every_pair, sound}
 use Rattle.clauses.specs.declared.Clause.{Clause}
 use Rattle.clauses.specs.declared.Clause.TheVariants.{Sound}
-use Rattle.clauses.specs.Clauses.{is_sound, first, own_clause, pair_clause, own_from, later_from, pairs_from, clause_of}
+use Rattle.clauses.specs.Clauses.{is_sound, own_clause, pair_clause, own_from, later_from, pairs_from, clause_of}
 use Rattle.clauses.proofs.Firsts.{sound_only, first_both}
 
 -- Where a test that fails tells a failure, none is told if the test holds and what comes behind it tells none.

@@ -1,4 +1,6 @@
 // Which clause of soundness a unit fails first, for a person who has to mend it.
+#![tactic(auto)]
+
 ghost use Rattle.std.specs.Prelude.{◌≡◌, ◌+◌, ◌≤◌, ◌<◌, get_or, take, drop};
 ghost use Rattle.map.specs.Made.{blank};
 ghost use Rattle.map.specs.Place.{areas_most};
@@ -36,6 +38,7 @@ const AREAS: usize = 8;
 const ADDRESSES: u64 = 4294967296;
 
 // The first clause of soundness that a profile fails over a store of that many octets.
+#[tactic(auto, unfolding(crate::specs::Clauses::clause_of))]
 pub fn clause_of(profile: Profile, octets: usize) -> Clause
     ensures { result ≡ clause_of profile octets }
 {
@@ -118,6 +121,7 @@ fn later(areas: [Area; 8], i: usize, count: usize) -> Clause
 }
 
 // What an area must meet by itself, over a store of that many octets.
+#[tactic(auto, unfolding(crate::specs::Clauses::own_clause))]
 fn own(octets: usize, i: u8, area: Area) -> Clause
     ensures { result ≡ own_clause octets i area }
 {
@@ -135,6 +139,7 @@ fn own(octets: usize, i: u8, area: Area) -> Clause
 }
 
 // What two areas must meet.
+#[tactic(auto, unfolding(crate::specs::Clauses::pair_clause))]
 fn pair(i: u8, a: Area, j: u8, b: Area) -> Clause
     ensures { result ≡ pair_clause i a j b }
 {

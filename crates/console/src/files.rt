@@ -1,197 +1,274 @@
 // The files that a program is given by name: a unit, and its input.
-use super::fail;
-use libc::{STDERR_FILENO, STDIN_FILENO};
+use super::{Console, fail, say};
+use std::env::FillError;
+use std::fs::{File, Files as Opens};
+use std::io::{Read, Stdin, Write};
+use std::rt::Env;
+use std::{fs, io};
 
 // The longest name of a file.
 const NAME_ROOM: usize = 4096;
 
+// The most arguments that are counted, the program's name among them: more than any program takes.
+const ARGUMENTS_MOST: usize = 8;
+
 // The name of a file.
 type Name = [u8; NAME_ROOM];
 
-// Whether both files are open, and their descriptors.
+// A file that is open, or standard input.
+#[derive(Drop)]
+pub enum Source {
+    Standard(Stdin),
+    Named(File),
+}
+
+// The unit and the input that a program is given.
 #[derive(Drop)]
 pub struct Files {
-    pub open: bool,
-    pub unit: i32,
-    pub input: i32,
+    pub unit: Source,
+    pub input: Source,
 }
 
-// Whether a unit is given, and the files.
+// The input that a program is given, and the unit, where it is given one.
 #[derive(Drop)]
 pub struct Choice {
-    pub given: bool,
-    pub files: Files,
+    pub unit: Option<Source>,
+    pub input: Source,
 }
 
-// A file that is open, standard input among them, or one that is not.
-#[derive(Drop)]
-struct Opened {
-    open: bool,
-    standard: bool,
-    file: i32,
-}
-
-// What is given up is said before.
-fn none() -> Opened {
-    Opened {
-        open: false,
-        standard: false,
-        file: STDIN_FILENO,
+impl Read for Source {
+    fn read(&mut self, buf: &mut [u8]) -> io::Result<usize> {
+        match self {
+            Source::Standard(s) => s.read(buf),
+            Source::Named(f) => f.read(buf),
+        }
     }
 }
 
-// Standard input.
-fn standard() -> Opened {
-    Opened {
-        open: true,
-        standard: true,
-        file: STDIN_FILENO,
+// Says why a file cannot be opened, as the system words it.
+fn say_why<O: Write + Drop, E: Write + Drop>(
+    rt: &HostRuntime,
+    console: &mut Console<O, E>,
+    e: io::Error,
+) {
+    let words = format!(in rt.alloc(); "{e}");
+    match words {
+        Ok(text) => {
+            let all = text.as_bytes();
+            say(console, own_words(all));
+        }
+        Err(_) => say(console, b"it cannot be opened"),
+    }
+}
+
+// The system's own words, without the number in brackets behind them.
+fn own_words(all: &[u8]) -> &[u8] {
+    match all.iter().position(|c| *c == b'(') {
+        Some(at) => &all[..at.saturating_sub(1)],
+        None => all,
     }
 }
 
 // Says that a file cannot be read, by its name and why.
-fn unreadable(name: &[u8], path: &[u8]) -> Opened {
-    io::write_all(STDERR_FILENO, name);
-    io::write_all(STDERR_FILENO, b": ");
-    os::fail(path);
-    fail(b"", b"");
-    none()
+fn unreadable<O: Write + Drop, E: Write + Drop>(
+    rt: &HostRuntime,
+    console: &mut Console<O, E>,
+    path: &[u8],
+    e: io::Error,
+) -> Option<Source> {
+    fail(console, b": ");
+    say(console, path);
+    say(console, b": ");
+    say_why(rt, console, e);
+    say(console, b"\n");
+    None
 }
 
 // Opens a file by its name and reads nothing of it, which a directory refuses.
-fn open_file(name: &[u8], path: &[u8]) -> Opened {
-    let file = os::open_read(path);
-    if file < 0 {
-        return unreadable(name, path);
-    }
-    let mut nothing = [0u8; 0];
-    if libc::read(file, &mut nothing) < 0 {
-        return unreadable(name, path);
-    }
-    Opened {
-        open: true,
-        standard: false,
-        file,
+fn open_file<O: Write + Drop, E: Write + Drop>(
+    rt: &HostRuntime,
+    console: &mut Console<O, E>,
+    path: &[u8],
+) -> Option<Source> {
+    let Ok(name) = str::from_utf8(path) else {
+        fail(console, b": ");
+        say(console, path);
+        say(console, b": the name of the file is not UTF-8\n");
+        return None;
+    };
+    match fs::open(rt, name) {
+        Ok(mut file) => {
+            let mut nothing = [0u8; 0];
+            match file.read(&mut nothing) {
+                Ok(_) => Some(Source::Named(file)),
+                Err(e) => unreadable(rt, console, path, e),
+            }
+        }
+        Err(e) => unreadable(rt, console, path, e),
     }
 }
 
 // A file by its name: standard input where that is `-`; any other name that begins so is an option that there is not.
-fn named(name: &[u8], path: &[u8]) -> Opened {
+fn named<O: Write + Drop, E: Write + Drop>(
+    rt: &HostRuntime,
+    console: &mut Console<O, E>,
+    path: &[u8],
+) -> Option<Source> {
     if path.len() == 0 {
-        fail(name, b": the name of a file is empty\n");
-        return none();
+        fail(console, b": the name of a file is empty\n");
+        return None;
     }
     if path[0] != b'-' {
-        return open_file(name, path);
+        return open_file(rt, console, path);
     }
     if path.len() == 1 {
-        return standard();
+        return Some(Source::Standard(rt.stdin()));
     }
-    fail(name, b": unknown option ");
-    fail(path, b"\n");
-    none()
+    fail(console, b": unknown option ");
+    say(console, path);
+    say(console, b"\n");
+    None
 }
 
 // The file that an argument names.
-fn argument(name: &[u8], at: usize) -> Opened {
-    let mut path = [0u8; NAME_ROOM];
-    let count = os::arg(at, &mut path);
-    if os::errno() != 0 {
-        fail(name, b": the name of a file is too long\n");
-        return none();
+fn argument<O: Write + Drop, E: Write + Drop>(
+    rt: &HostRuntime,
+    console: &mut Console<O, E>,
+    at: usize,
+) -> Option<Source> {
+    let mut path: Name = [0u8; NAME_ROOM];
+    match rt.arg(at, &mut path) {
+        Ok(count) => named(rt, console, &path[..count]),
+        Err(_) => {
+            fail(console, b": the name of a file is too long\n");
+            None
+        }
     }
-    named(name, &path[..count])
 }
 
 // The input that an argument names, of so many arguments, and standard input where it is left out.
-fn input_at(name: &[u8], at: usize, count: usize) -> Opened {
+fn input_at<O: Write + Drop, E: Write + Drop>(
+    rt: &HostRuntime,
+    console: &mut Console<O, E>,
+    at: usize,
+    count: usize,
+) -> Option<Source> {
     if count <= at {
-        return standard();
+        return Some(Source::Standard(rt.stdin()));
     }
-    argument(name, at)
+    argument(rt, console, at)
 }
 
-// No file is open: what is wrong is said before.
-fn closed() -> Files {
-    Files {
-        open: false,
-        unit: STDIN_FILENO,
-        input: STDIN_FILENO,
+// Whether a source is standard input.
+fn is_standard(source: &Source) -> bool {
+    match source {
+        Source::Standard(_) => true,
+        Source::Named(_) => false,
     }
 }
 
-// The unit that an argument names, and the input that another does, of so many arguments.
-fn both(name: &[u8], unit_at: usize, at: usize, count: usize) -> Files {
-    let unit = argument(name, unit_at);
-    if !unit.open {
-        return closed();
+// The unit that an argument names, and the input that another does, of so many arguments. What is wrong is said.
+fn both<O: Write + Drop, E: Write + Drop>(
+    rt: &HostRuntime,
+    console: &mut Console<O, E>,
+    unit_at: usize,
+    at: usize,
+    count: usize,
+) -> Option<Files> {
+    let unit = argument(rt, console, unit_at)?;
+    let input = input_at(rt, console, at, count)?;
+    if is_standard(&unit) && is_standard(&input) {
+        fail(console, b": standard input cannot be both files\n");
+        return None;
     }
-    let input = input_at(name, at, count);
-    if !input.open {
-        return closed();
+    Some(Files { unit, input })
+}
+
+// Whether there is an argument at a place.
+fn is_given(rt: &HostRuntime, at: usize) -> bool {
+    let mut word = [0u8; 1];
+    match rt.arg(at, &mut word) {
+        Ok(_) => true,
+        Err(FillError::TooLong) => true,
+        Err(FillError::NotPresent) => false,
     }
-    if unit.standard && input.standard {
-        fail(name, b": standard input cannot be both files\n");
-        return closed();
+}
+
+// How many arguments there are, the program's name among them, as far as they are counted.
+fn arg_count(rt: &HostRuntime) -> usize {
+    for at in 0..ARGUMENTS_MOST {
+        if !is_given(rt, at) {
+            return at;
+        }
     }
-    Files {
-        open: true,
-        unit: unit.file,
-        input: input.file,
-    }
+    ARGUMENTS_MOST
 }
 
 // The files of a program that takes a unit and its input, which is standard input where it is left out. What is wrong is said.
-pub fn unit_and_input(name: &[u8], usage: &[u8]) -> Files {
-    let count = os::arg_count();
+pub fn unit_and_input<O: Write + Drop, E: Write + Drop>(
+    rt: &HostRuntime,
+    console: &mut Console<O, E>,
+    usage: &[u8],
+) -> Option<Files> {
+    let count = arg_count(rt);
     if count < 2 || 3 < count {
-        fail(name, usage);
-        return closed();
+        fail(console, usage);
+        return None;
     }
-    both(name, 1, 2, count)
+    both(rt, console, 1, 2, count)
 }
 
 // Whether the first argument is the option that names a unit.
-fn is_option() -> bool {
-    let mut word = [0u8; NAME_ROOM];
-    let count = os::arg(1, &mut word);
-    words::same(&word[..count], b"--unit")
+fn is_option(rt: &HostRuntime) -> bool {
+    let mut word: Name = [0u8; NAME_ROOM];
+    match rt.arg(1, &mut word) {
+        Ok(count) => words::same(&word[..count], b"--unit"),
+        Err(_) => false,
+    }
 }
 
 // The files of a program whose first argument is the option, of so many arguments.
-fn behind_option(name: &[u8], usage: &[u8], count: usize) -> Files {
+fn behind_option<O: Write + Drop, E: Write + Drop>(
+    rt: &HostRuntime,
+    console: &mut Console<O, E>,
+    usage: &[u8],
+    count: usize,
+) -> Option<Choice> {
     if count < 3 || 4 < count {
-        fail(name, usage);
-        return closed();
+        fail(console, usage);
+        return None;
     }
-    both(name, 2, 3, count)
+    let files = both(rt, console, 2, 3, count)?;
+    Some(Choice {
+        unit: Some(files.unit),
+        input: files.input,
+    })
 }
 
 // The files of a program that is given no unit, of so many arguments.
-fn input_alone(name: &[u8], usage: &[u8], count: usize) -> Files {
+fn input_alone<O: Write + Drop, E: Write + Drop>(
+    rt: &HostRuntime,
+    console: &mut Console<O, E>,
+    usage: &[u8],
+    count: usize,
+) -> Option<Choice> {
     if 2 < count {
-        fail(name, usage);
-        return closed();
+        fail(console, usage);
+        return None;
     }
-    let input = input_at(name, 1, count);
-    Files {
-        open: input.open,
-        unit: STDIN_FILENO,
-        input: input.file,
-    }
+    let input = input_at(rt, console, 1, count)?;
+    Some(Choice { unit: None, input })
 }
 
 // The files of a program that takes its input, and with the option `--unit` before it a unit. What is wrong is said.
-pub fn optional_unit(name: &[u8], usage: &[u8]) -> Choice {
-    let count = os::arg_count();
-    if 1 < count && is_option() {
-        return Choice {
-            given: true,
-            files: behind_option(name, usage, count),
-        };
+pub fn optional_unit<O: Write + Drop, E: Write + Drop>(
+    rt: &HostRuntime,
+    console: &mut Console<O, E>,
+    usage: &[u8],
+) -> Option<Choice> {
+    let count = arg_count(rt);
+    if 1 < count && is_option(rt) {
+        return behind_option(rt, console, usage, count);
     }
-    Choice {
-        given: false,
-        files: input_alone(name, usage, count),
-    }
+    input_alone(rt, console, usage, count)
 }

@@ -1,4 +1,6 @@
 // What a report tells: the kinds of reports, which source data each has, and what is read in it.
+#![tactic(auto)]
+
 ghost use Rattle.std.specs.Prelude.{◌≡◌, ◌+◌, ◌*◌, ◌≤◌};
 ghost use Rattle.map.specs.Place.{word_octets};
 ghost use Rattle.contents.specs.Kinds.{service_kind, memory_kind, kind_of, is_known};
@@ -118,6 +120,7 @@ fn memory_kind(subtype: u8) -> Kind
 }
 
 // The kind of the reports of a type and subtype.
+#[tactic(auto, unfolding(crate::specs::Kinds::kind_of))]
 pub fn kind_of(kind: u8, subtype: u8) -> Kind
     ensures { result ≡ kind_of kind subtype }
 {
@@ -184,6 +187,7 @@ fn dump_size(words: u16) -> usize
 }
 
 // Whether source data is that of (6,6): the octet 1, a length of 1 to 240 words, and exactly the words.
+#[tactic(auto, unfolding(crate::specs::Source::dump_formed))]
 fn dump_formed(source: &[u8]) -> bool
     ensures { result ≡ dump_formed source.now }
 {
@@ -201,6 +205,7 @@ fn dump_formed(source: &[u8]) -> bool
 }
 
 // Whether source data is that of (6,10): 1 to 8 blocks, exactly their entries, and no length of 0.
+#[tactic(auto, unfolding(crate::specs::Source::check_formed))]
 fn check_formed(source: &[u8]) -> bool
     ensures { result ≡ check_formed source.now }
 {

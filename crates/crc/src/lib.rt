@@ -1,4 +1,6 @@
 // The CRC of document 01 over any octets, from any start.
+#![tactic(auto)]
+
 mod tables;
 
 ghost use Rattle.std.specs.Prelude.{◌≡◌, ◌<◌, length};

@@ -1,4 +1,6 @@
 // The fields of a packet's headers, taken apart and put together by shifts and masks; the contracts say the same in division and remainder.
+#![tactic(auto)]
+
 ghost use Rattle.std.specs.Prelude.{◌≡◌};
 ghost use Rattle.octets.specs.Numbers.{word16};
 ghost use Rattle.fields.specs.Fields.{packet_id, id_of, sequence, control_of, header, header_of, apid_of};

@@ -1,4 +1,6 @@
 // The groups of a record: where a line stands, and the frames that are due there.
+#![tactic(auto)]
+
 ghost use Rattle.std.specs.Prelude.{◌≡◌};
 ghost use Rattle.grouping.specs.Group.{no_group, due_at, opened, compared, closed};
 

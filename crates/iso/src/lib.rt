@@ -1,4 +1,6 @@
 // The ISO checksum of ECSS-E-70-41A's annex over any octets.
+#![tactic(auto)]
+
 ghost use Rattle.std.specs.Prelude.{◌≡◌};
 ghost use Rattle.iso.specs.Checksum.{sums_of, minus, sent, iso_of};
 

@@ -10,7 +10,6 @@ use lib.ListN.{length, get_or, drop, drop_of_length-le}
 use lib.Seq.{drop-cons}
 use lib.Dec.{eqb}
 use borrow.Author.Tests.{eq-eqb, ne_eqb, lt-ltb, le-ltb}
-use Rattle.lines.specs.declared.End.{End}
 use Rattle.lines.specs.declared.End.TheVariants.{On, Newline, Last}
 use Rattle.lines.specs.declared.Cut.TheVariants.{Piece as Whole, More}
 use Rattle.lines.specs.Lines.{newline}

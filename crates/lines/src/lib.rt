@@ -1,4 +1,6 @@
 // Lines of an input that comes in parts: the whole pieces at the front of what is not answered yet, and what is left moved to the front.
+#![tactic(auto)]
+
 ghost use Rattle.std.specs.Prelude.{◌≡◌, length, take, drop};
 ghost use Rattle.octets.specs.Copy.{laid};
 ghost use Rattle.lines.specs.Cuts.{started, next_of, rest_of, ends_line, left_of, passed_of, carried_of};
@@ -72,6 +74,7 @@ pub fn piece(input: &[u8], from: usize, count: usize) -> &[u8]
 }
 
 // The first whole piece of the input from a place on, which may go on: of at most so many characters, up to a newline, or up to the character that has no room in it.
+#[tactic(auto, using(crate::proofs::Cuts::next_at_newline, crate::proofs::Cuts::next_at_on, crate::proofs::Cuts::next_at_more, crate::proofs::Cuts::next_past))]
 pub fn next(input: &[u8], from: usize, bound: usize) -> Cut
     ensures { result ≡ next_of bound (drop from input.now) }
 {
@@ -141,6 +144,7 @@ pub fn passed(input: &[u8], w: Walk, count: usize, end: End, at: usize) -> Walk
 }
 
 // Moves what stands from a place on, of the input at the front of a buffer, to the buffer's front, and answers how much it is: none where the place is past that input.
+#[tactic(auto, using(octets::proofs::Laid::laid_none))]
 pub fn keep(buffer: &mut [u8], from: usize, have: usize) -> usize
     ensures value { result ≡ length (left_of from have buffer.old) }
     ensures buffer_after { buffer.new ≡ laid buffer.old 0 (left_of from have buffer.old) }

@@ -1,4 +1,6 @@
 // Document 01, "Profile and memory": areas, profiles, and when a profile is sound over a store.
+#![tactic(auto)]
+
 ghost use Rattle.std.specs.Prelude.{◌≡◌, ◌+◌, ◌≤◌, ◌^◌, set};
 ghost use Rattle.map.specs.Place.{octets_of};
 

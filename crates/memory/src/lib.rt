@@ -1,4 +1,6 @@
 // What service 6 does on an area: a load's words written into the store, and what a check says of the words that stand there.
+#![tactic(auto)]
+
 ghost use Rattle.std.specs.Prelude.{◌≡◌};
 ghost use Rattle.blocks.specs.Blocks.{blocks_of};
 ghost use Rattle.requests.specs.declared.Action.TheVariants.{Load};

@@ -1,5 +1,5 @@
 -- docs/UNITS.md, "Lines, words and numbers": the number that a word states, and the decimal digits of a number.
-use Rattle.std.specs.Prelude.{Bool, true, false, cond, not, ◌&&◌, ◌||◌, List, [], ◌∷◌, ◌++◌, ℕ, zero, suc, ◌+◌, ◌*◌, ◌/◌, ◌%◌, length, drop, eqb, leb, ltb}
+use Rattle.std.specs.Prelude.{Bool, true, cond, ◌&&◌, List, [], ◌∷◌, ◌++◌, ℕ, zero, suc, ◌+◌, ◌*◌, ◌/◌, ◌%◌, length, drop, eqb, leb, ltb}
 use Rattle.octets.specs.Numbers.{octet}
 use Rattle.characters.specs.Digits.{value_of}
 use Rattle.numerals.specs.declared.Numeral.{Numeral}

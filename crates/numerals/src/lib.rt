@@ -1,4 +1,6 @@
 // Numbers as words: the number that a word states, and the decimal digits of one.
+#![tactic(auto)]
+
 ghost use Rattle.std.specs.Prelude.{◌≡◌, cond, ◌+◌, ◌*◌, ◌%◌, ◌≤◌, min, length, leb};
 ghost use Rattle.saying.specs.Text.{SaysBy};
 ghost use Rattle.numerals.specs.Numbers.{number_most, is_prefixed, has_leading_zero, stated_by, numeral_of, decimal_from, decimal_of};
@@ -48,6 +50,7 @@ fn told(n: u64) -> Numeral
 }
 
 // The number that digits of a base state, of which there are some.
+#[tactic(auto, using(crate::proofs::Reading::stated_some, crate::proofs::Reading::stated_fail, crate::proofs::Reading::stated_pass, crate::proofs::Reading::stated_end))]
 fn walked(digits: &[u8], base: u8) -> Numeral
     requires { (1 ≤ length digits.now) × (1 ≤ base) × (base ≤ 16) }
     ensures { result ≡ stated_by base digits.now }
@@ -66,6 +69,7 @@ fn walked(digits: &[u8], base: u8) -> Numeral
 }
 
 // The number that one or more digits of a base state.
+#[tactic(auto, unfolding(crate::specs::Numbers::stated_by))]
 fn stated(digits: &[u8], base: u8) -> Numeral
     requires { (1 ≤ base) × (base ≤ 16) }
     ensures { result ≡ stated_by base digits.now }
@@ -97,6 +101,7 @@ fn is_prefixed(word: &[u8]) -> bool
 }
 
 // The number that a word states.
+#[tactic(auto, using(crate::proofs::Reading::prefixed_long, crate::proofs::Reading::numeral_prefixed, crate::proofs::Reading::numeral_plain, crate::proofs::Reading::numeral_zero))]
 pub fn number(word: &[u8]) -> Numeral
     ensures { result ≡ numeral_of word.now }
 {
@@ -110,6 +115,7 @@ pub fn number(word: &[u8]) -> Numeral
 }
 
 // The character of a number's last decimal digit.
+#[tactic(auto, using(characters::proofs::Capitals::digit_number))]
 fn digit(x: u64) -> u8
     ensures { result ≡ 0x30 + x % 10 }
 {
@@ -131,6 +137,7 @@ fn digits(text: &mut [u8], at: usize, x: u64, count: u8) -> usize
 }
 
 // Adds the decimal digits of a number.
+#[tactic(auto, unfolding(crate::specs::Numbers::decimal_of))]
 pub fn decimal(text: &mut [u8], at: usize, x: u64) -> usize
     ensures { SaysBy (decimal_of x) at text result }
 {

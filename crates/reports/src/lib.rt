@@ -1,4 +1,6 @@
 // The reports of document 01: the source data of each, and the frames that carry it.
+#![tactic(auto)]
+
 ghost use Rattle.std.specs.Prelude.{◌++◌, ◌≡◌};
 ghost use Rattle.tm.specs.Frame.{frame_of, LaysFrame};
 ghost use Rattle.reports.specs.Source.{echoed, failure, dump_head, check_entry};

@@ -12,7 +12,6 @@ use Rattle.blocks.specs.declared.Block.{Block}
 use Rattle.blocks.specs.Blocks.{memory_id}
 use Rattle.requests.specs.declared.Action.{Action}
 use Rattle.requests.specs.declared.Action.TheVariants.{Load, Dump, Check}
-use Rattle.requests.specs.declared.Request.{Request}
 use Rattle.requests.specs.declared.Request.TheVariants.{Memory, Connection}
 use Rattle.requests.specs.declared.Asked.{Asked}
 use Rattle.requests.specs.declared.Asked.TheVariants.{Known, Unknown}

@@ -1,4 +1,6 @@
 // What a packet asks for, what a profile offers of it, and what an action needs of an area.
+#![tactic(auto)]
+
 ghost use Rattle.std.specs.Prelude.{◌≡◌};
 ghost use Rattle.blocks.specs.Blocks.{blocks_of};
 ghost use Rattle.requests.specs.Request.{serves, asked_for, memory_asked, offers, right_for, carried_by, most_words, outside_of};
@@ -40,6 +42,7 @@ pub const DUMP_MOST: u16 = 240;
 const FIELD_MOST: u16 = 65535;
 
 // What a type and subtype ask for.
+#[tactic(auto, unfolding(crate::specs::Request::asked_for))]
 pub fn asked_for(kind: u8, subtype: u8) -> Asked
     ensures { result ≡ asked_for kind subtype }
 {
@@ -55,6 +58,7 @@ pub fn asked_for(kind: u8, subtype: u8) -> Asked
 }
 
 // What a subtype of service 6 asks for.
+#[tactic(auto, unfolding(crate::specs::Request::memory_asked))]
 fn memory_asked(subtype: u8) -> Asked
     ensures { result ≡ memory_asked subtype }
 {
@@ -71,6 +75,7 @@ fn memory_asked(subtype: u8) -> Asked
 }
 
 // Check 3: the type is 6 or 17, and a flag of it is set.
+#[tactic(auto, unfolding(crate::specs::Request::serves))]
 pub fn is_served(flags: Flags, kind: u8) -> bool
     ensures { result ≡ serves flags kind }
 {

@@ -1,20 +1,23 @@
 // The loop of a program over lines: a file is read in parts, what came is fed to the program, and what it says is written.
-use console::Got;
+#![tactic(auto)]
+
+use console::{Console, Got};
 use desk::Desk;
 use feeding::Progress;
 use judgeline::DIFFERS;
 use packline::GOES_ON;
+use std::io::{Read, Write};
 use tasks::Task;
 
 // Whether something failed, which was said, and the desk behind the last line.
-#[derive(Drop)]
+#[derive(Clone, Copy)]
 pub struct Ran {
     pub failed: bool,
     pub desk: Desk,
 }
 
 // Whether to go on, whether something failed, and how far the program has come.
-#[derive(Drop)]
+#[derive(Clone, Copy)]
 struct Next {
     on: bool,
     failed: bool,
@@ -40,27 +43,27 @@ fn ends(failed: bool, p: Progress) -> Next {
 }
 
 // Marks why a judge has stopped: the record differs, or is refused.
-fn mark_stopped(kind: u8) {
+fn mark_stopped<O: Write + Drop, E: Write + Drop>(console: &mut Console<O, E>, kind: u8) {
     if kind == DIFFERS {
-        console::differ();
+        console::differ(console);
         return;
     }
     if kind != GOES_ON {
-        console::tell(b"");
+        console::tell(console, b"");
     }
 }
 
 // Marks a judge's verdict for whoever started the program. It is marked before it is written, so that it stands even where nobody reads it.
-pub fn mark(task: Task, desk: Desk) {
+pub fn mark<O: Write + Drop, E: Write + Drop>(console: &mut Console<O, E>, task: Task, desk: Desk) {
     let halt = desk.halt;
     if let Task::Judge = task {
-        mark_stopped(halt.kind);
+        mark_stopped(console, halt.kind);
     }
 }
 
 // Answers what is left at the end of the input.
-fn end(
-    name: &[u8],
+fn end<O: Write + Drop, E: Write + Drop>(
+    console: &mut Console<O, E>,
     task: Task,
     p: Progress,
     input: &[u8],
@@ -69,18 +72,18 @@ fn end(
     text: &mut [u8],
 ) -> Next {
     let last = feeding::finish(task, p, input, store, frames, text);
-    mark(task, last.desk);
-    let written = console::write(name, lines::front(text, last.at));
+    mark(console, task, last.desk);
+    let written = console::write(console, lines::front(text, last.at));
     let lines = p.lines;
     let desk = last.desk;
     ends(!written, Progress { lines, desk })
 }
 
 // Reads behind what is left: more of the input, its end, or a failure, after which nothing is answered any more.
-fn more(
-    name: &[u8],
+fn more<O: Write + Drop, E: Write + Drop, F: Read>(
+    console: &mut Console<O, E>,
     task: Task,
-    file: i32,
+    file: &mut F,
     p: Progress,
     input: &mut [u8],
     store: &mut [u8],
@@ -88,22 +91,22 @@ fn more(
     text: &mut [u8],
 ) -> Next {
     let mut l = p.lines;
-    match console::read(name, file, input, l.have) {
+    match console::read(console, file, input, l.have) {
         Got::More(have) => {
             l.have = have;
             let desk = p.desk;
             goes_on(Progress { lines: l, desk })
         }
-        Got::End => end(name, task, p, input, store, frames, text),
+        Got::End => end(console, task, p, input, store, frames, text),
         Got::Failed => ends(true, p),
     }
 }
 
 // Writes what was said; then, where the program has not stopped and no whole piece is left, reads more.
-fn settle(
-    name: &[u8],
+fn settle<O: Write + Drop, E: Write + Drop, F: Read>(
+    console: &mut Console<O, E>,
     task: Task,
-    file: i32,
+    file: &mut F,
     fed: Progress,
     input: &mut [u8],
     store: &mut [u8],
@@ -111,8 +114,8 @@ fn settle(
     text: &mut [u8],
 ) -> Next {
     let l = fed.lines;
-    mark(task, fed.desk);
-    if !console::write(name, lines::front(text, l.at)) {
+    mark(console, task, fed.desk);
+    if !console::write(console, lines::front(text, l.at)) {
         return ends(true, fed);
     }
     if desk::is_halted(fed.desk) {
@@ -121,14 +124,14 @@ fn settle(
     if !l.open {
         return goes_on(fed);
     }
-    more(name, task, file, fed, input, store, frames, text)
+    more(console, task, file, fed, input, store, frames, text)
 }
 
 // One turn: answers what was read, and goes on from there.
-fn turn(
-    name: &[u8],
+fn turn<O: Write + Drop, E: Write + Drop, F: Read>(
+    console: &mut Console<O, E>,
     task: Task,
-    file: i32,
+    file: &mut F,
     p: Progress,
     input: &mut [u8],
     store: &mut [u8],
@@ -136,14 +139,14 @@ fn turn(
     text: &mut [u8],
 ) -> Next {
     let fed = feeding::feed(task, p, input, store, frames, text);
-    settle(name, task, file, fed, input, store, frames, text)
+    settle(console, task, file, fed, input, store, frames, text)
 }
 
 // Runs a program over a file, from a desk and a store on, in the buffers that it is lent. A proved loop has to end, and nothing says that the input does. So the loop counts its turns down, from a number that no run uses up.
-pub fn run(
-    name: &[u8],
+pub fn run<O: Write + Drop, E: Write + Drop, F: Read>(
+    console: &mut Console<O, E>,
     task: Task,
-    file: i32,
+    file: &mut F,
     desk: Desk,
     input: &mut [u8],
     store: &mut [u8],
@@ -154,7 +157,7 @@ pub fn run(
     let mut t = goes_on(feeding::start(desk));
     while turns > 0 && t.on {
         let p = t.p;
-        t = turn(name, task, file, p, input, store, frames, text);
+        t = turn(console, task, file, p, input, store, frames, text);
         turns -= 1;
     }
     let last = t.p;

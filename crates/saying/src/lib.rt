@@ -1,4 +1,6 @@
 // Text added to a buffer from a place on: each function answers the place behind it, or the one past the buffer's end where some of the text found no room.
+#![tactic(auto)]
+
 ghost use Rattle.std.specs.Prelude.{◌≡◌, ◌+◌, ◌<◌, ◌^◌, min, [], ◌∷◌, length};
 ghost use Rattle.octets.specs.Numbers.{octets16};
 ghost use Rattle.characters.specs.Digits.{text_of, upper_text};
@@ -25,6 +27,7 @@ pub fn kept(text: &[u8], at: usize) -> usize
 }
 
 // Adds a character.
+#[tactic(auto, unfolding(octets::specs::Copy::laid))]
 pub fn put(text: &mut [u8], at: usize, c: u8) -> usize
     ensures { SaysBy (c ∷ []) at text result }
 {
@@ -41,6 +44,7 @@ pub fn text(text: &mut [u8], at: usize, all: &[u8]) -> usize
 }
 
 // Adds some characters, the digits among them in upper case.
+#[tactic(auto, using(characters::proofs::Capitals::upper_length))]
 pub fn upper(text: &mut [u8], at: usize, all: &[u8]) -> usize
     ensures { SaysBy (upper_text all.now) at text result }
 {
@@ -49,6 +53,7 @@ pub fn upper(text: &mut [u8], at: usize, all: &[u8]) -> usize
 }
 
 // Adds some octets, two digits each.
+#[tactic(auto, using(characters::proofs::Digits::text_length))]
 pub fn octets(text: &mut [u8], at: usize, all: &[u8]) -> usize
     ensures { SaysBy (text_of all.now) at text result }
 {

@@ -1,4 +1,6 @@
 // Document 01, "Profile and memory": whether a profile is sound over a store, by the definition in `map`.
+#![tactic(auto)]
+
 ghost use Rattle.std.specs.Prelude.{◌≡◌, ◌≤◌, take};
 ghost use Rattle.laws.specs.Each.{every};
 ghost use Rattle.map.specs.Place.{areas_most};

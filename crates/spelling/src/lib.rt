@@ -1,4 +1,6 @@
 // A line that spells the frame due: the quick way to see that the two agree.
+#![tactic(auto)]
+
 ghost use Rattle.std.specs.Prelude.{◌≡◌, ◌*◌, ◌≤◌, length};
 ghost use Rattle.spelling.specs.Spelling.{spelled, spelled_all, sized_for, spelled_apart, spells_frame};
 

@@ -1,4 +1,6 @@
 // Telemetry packets of document 01: the layout of a frame, and where it ends.
+#![tactic(auto)]
+
 ghost use Rattle.std.specs.Prelude.{◌≡◌, ◌+◌, min, length, drop};
 ghost use Rattle.tm.specs.Frame.{head_of, frame_of, frame_size, LaysFrame};
 

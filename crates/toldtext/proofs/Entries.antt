@@ -1,6 +1,6 @@
 -- What is said of the blocks of a check: of none, and of a first one and those behind it.
 -- Assumes nothing.
-use mathlib.Core.Path.{◌≡◌, refl, ap}
+use mathlib.Core.Path.{◌≡◌, refl}
 use mathlib.Core.List.{List, [], ◌++◌}
 use Prim.Native.Nat.{ℕ, zero, suc, ◌-◌, ◌+◌, min}
 use native.Mathlib.Omega.{arith}

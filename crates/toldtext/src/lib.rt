@@ -1,4 +1,6 @@
 // What a frame tells, as text for people.
+#![tactic(auto)]
+
 ghost use Rattle.std.specs.Prelude.{◌++◌};
 ghost use Rattle.octets.specs.Copy.{placed};
 ghost use Rattle.saying.specs.Text.{SaysBy};

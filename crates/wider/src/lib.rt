@@ -1,4 +1,6 @@
 // When one profile is wider than another.
+#![tactic(auto)]
+
 ghost use Rattle.std.specs.Prelude.{◌≡◌, ◌≤◌, take};
 ghost use Rattle.laws.specs.Each.{every};
 ghost use Rattle.map.specs.Place.{areas_most};
@@ -15,6 +17,7 @@ fn is_kept(wide: bool, narrow: bool) -> bool
 }
 
 // Whether there are at least the rights of another area.
+#[tactic(auto, unfolding(crate::specs::Wider::keeps_rights))]
 fn keeps_rights(wide: Rights, narrow: Rights) -> bool
     ensures { result ≡ keeps_rights wide narrow }
 {
@@ -28,6 +31,7 @@ fn keeps_rights(wide: Rights, narrow: Rights) -> bool
 }
 
 // Whether an area has at least the addresses of another, and the same store word for each of those. It is the same for each where it is the same for the first.
+#[tactic(auto, unfolding(crate::specs::Wider::keeps_words))]
 fn keeps_words(wide: Area, narrow: Area) -> bool
     ensures { result ≡ keeps_words wide narrow }
 {
@@ -41,6 +45,7 @@ fn keeps_words(wide: Area, narrow: Area) -> bool
 }
 
 // Whether an area of the wider serves for one of the narrower.
+#[tactic(auto, unfolding(crate::specs::Wider::covers))]
 fn does_cover(wide: Area, narrow: Area) -> bool
     ensures { result ≡ covers wide narrow }
 {
@@ -84,6 +89,7 @@ fn are_covered(wide: [Area; 8], outer: usize, narrow: [Area; 8], inner: usize) -
 }
 
 // Whether there are at least the flags of another profile.
+#[tactic(auto, unfolding(crate::specs::Wider::keeps_flags))]
 fn keeps_flags(wide: Flags, narrow: Flags) -> bool
     ensures { result ≡ keeps_flags wide narrow }
 {
@@ -100,6 +106,7 @@ fn keeps_flags(wide: Flags, narrow: Flags) -> bool
 }
 
 // Whether a profile is wider than another over a store of that many octets.
+#[tactic(auto, unfolding(crate::specs::Wider::wider))]
 pub fn is_wider(wide: Profile, narrow: Profile, octets: usize) -> bool
     ensures { result ≡ wider wide narrow octets }
 {

@@ -1,4 +1,6 @@
 // Words of a line: blanks separate them, and a comment is passed over.
+#![tactic(auto)]
+
 ghost use Rattle.std.specs.Prelude.{◌≡◌, ◌+◌, drop};
 ghost use Rattle.words.specs.Words.{blanks_in, plain_in, span_of, same_text};
 ghost use Rattle.words.specs.Words.{is_blank as Blank};
@@ -23,6 +25,7 @@ fn is_blank(c: u8) -> bool
 }
 
 // The first place from one on at which no blank stands.
+#[tactic(auto, using(crate::proofs::Fronts::blanks_pass, crate::proofs::Fronts::blanks_stop, crate::proofs::Fronts::blanks_past))]
 fn past_blanks(line: &[u8], at: usize) -> usize
     ensures { result ≡ at + blanks_in (drop at line.now) }
 {
@@ -37,6 +40,7 @@ fn past_blanks(line: &[u8], at: usize) -> usize
 }
 
 // The first place from one on at which no character of a word stands.
+#[tactic(auto, using(crate::proofs::Fronts::plain_pass, crate::proofs::Fronts::plain_stop, crate::proofs::Fronts::plain_past, crate::proofs::Fronts::plain_hash, crate::proofs::Fronts::plain_blank, crate::proofs::Fronts::plain_other))]
 fn past_word(line: &[u8], at: usize) -> usize
     ensures { result ≡ at + plain_in (drop at line.now) }
 {
@@ -54,6 +58,7 @@ fn past_word(line: &[u8], at: usize) -> usize
 }
 
 // Where the next word of a line stands from a place on; it ends where it begins if there is none.
+#[tactic(auto, using(crate::proofs::Words::span_walked))]
 pub fn next(line: &[u8], at: usize) -> Span
     ensures { result ≡ span_of line.now at }
 {
@@ -65,6 +70,7 @@ pub fn next(line: &[u8], at: usize) -> Span
 }
 
 // Whether two texts are the same.
+#[tactic(auto, using(crate::proofs::Texts::same_lengths, crate::proofs::Texts::same_pass, crate::proofs::Texts::same_fail, crate::proofs::Texts::same_end))]
 pub fn same(a: &[u8], b: &[u8]) -> bool
     ensures { result ≡ same_text a.now b.now }
 {
