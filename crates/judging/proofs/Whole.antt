@@ -75,11 +75,11 @@ stops_at_end m v s =
 -- What is said from outside of a group on, and from inside of one.
 abbrev SaidOutside : List Line → Type 0
 SaidOutside lines = (p : Profile) (s : Station) (m : Place) (k packets frames : ℕ) → Outside p s m k packets frames
-    → judged m lines ≡ verdict_text (reading.verdictOutside p s k packets frames lines)
+    → judged m lines ≡ verdict_text (reading.verdict_outside p s k packets frames lines)
 
 abbrev SaidInside : List Line → Type 0
 SaidInside lines = (p : Profile) (s : Station) (m : Place) (k packets frames tc : ℕ) (due : List (List ℕ)) → Inside p s m k packets frames tc due
-    → judged m lines ≡ verdict_text (reading.verdictInside p s k packets frames tc due lines)
+    → judged m lines ≡ verdict_text (reading.verdict_inside p s k packets frames tc due lines)
 
 as_verdict : {said : List ℕ} {v w : Verdict} → w ≡ v → said ≡ verdict_text v → said ≡ verdict_text w
 as_verdict e f = f ∙ ap verdict_text (sym e)
@@ -121,7 +121,7 @@ inside_more l ls outer inner p s m k packets frames tc due o =
     (stops m l ls (Differs (k + 1) tc (first_of due) l) (inside_parted p s m k packets frames tc due o l t a))))
     (λ t. as_verdict (reading.inside_bad p s k packets frames tc due l ls t) (stops m l ls (Refused70 (k + 1) l) (inside-refused p s m k packets frames tc due o l t)))
   where
-    agreed : (x : Line) → is_packet x ≡ true → agrees (first_of due) (octets_in x) ≡ true → judged m (x ∷ ls) ≡ verdict_text (reading.verdictInside p s k packets frames tc due (x ∷ ls))
+    agreed : (x : Line) → is_packet x ≡ true → agrees (first_of due) (octets_in x) ≡ true → judged m (x ∷ ls) ≡ verdict_text (reading.verdict_inside p s k packets frames tc due (x ∷ ls))
     agreed [] t a =
         let b = inside-ended p s m k packets frames tc due o a in
         as_verdict (reading.inside-blank p s k packets frames tc due ls a) (passed_over m [] ls _ b.0 (outer p s (becomes m []) (k + 1) packets frames b.1))
