@@ -1,4 +1,6 @@
 // The text of a packet line and of its answer: whether a line is a packet line, frames one a line, and the closing line.
+#![tactic(auto)]
+
 ghost use Rattle.std.specs.Prelude.{◌≡◌};
 ghost use Rattle.tm.specs.Frame.{cut};
 ghost use Rattle.saying.specs.Text.{SaysBy};
@@ -10,6 +12,7 @@ use checks::Verdict;
 pub const LINE_MOST: usize = 4096;
 
 // Whether a line is a packet line: digits only, an even count of them, and at most 4,096.
+#[tactic(auto, using(crate::proofs::Packets::packet_long, crate::proofs::Packets::packet_odd, crate::proofs::Packets::packet_even))]
 pub fn is_packet(line: &[u8]) -> bool
     ensures { result ≡ is_packet line.now }
 {
