@@ -1,4 +1,6 @@
 // Whether a packet asks this terminal for something that it serves, and then the checks of the service asked.
+#![tactic(auto)]
+
 ghost use Rattle.std.specs.Prelude.{◌≡◌, ◌+◌, ◌*◌};
 ghost use Rattle.octets.specs.Copy.{placed};
 ghost use Rattle.addressing.specs.Requested.{request_decision, service_decision};

@@ -1,16 +1,16 @@
 -- Numbers and entries laid out read back, and what is read is laid out again.
 -- Assumes nothing.
 use mathlib.Core.Path.{◌≡◌, refl, sym, ap, ap₂, ◌∙◌}
-use mathlib.Core.Bool.{true, ◌&&◌}
+use mathlib.Core.Bool.{true}
 use mathlib.Core.List.{List, [], ◌∷◌, ◌++◌}
-use Prim.Native.Nat.{ℕ, zero, suc, ◌+◌, ◌*◌, ◌/◌, ◌%◌, ◌≤◌, ◌<◌}
+use Prim.Native.Nat.{ℕ, zero, suc, ◌+◌, ◌*◌, ◌/◌, ◌%◌}
 use native.Mathlib.Omega.{arith}
 use lib.ListN.{length, drop, length-append, length-drop}
 use lib.Dec.{leb}
 use borrow.Author.Tests.{le-leb, leb-true}
 use Rattle.laws.specs.Each.{Each}
 use Rattle.laws.proofs.Tests.{both}
-use Rattle.octets.specs.Numbers.{Octets, octet, word16, word32, octets16, octets32}
+use Rattle.octets.specs.Numbers.{Octets, octet, word16, word32, octets16}
 use Rattle.octets.proofs.Octets.{drop_octets, word16_small, word32_small}
 use Rattle.octets.proofs.Words.{octets16_of_word16, octets32_of_word32, run, run_drop}
 use Rattle.reports.specs.Source.{check_entry}

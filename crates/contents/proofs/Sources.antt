@@ -3,14 +3,14 @@
 use mathlib.Core.Path.{◌≡◌, refl, sym, ap, ap₂, ◌∙◌}
 use mathlib.Core.Bool.{true, ◌&&◌, false≢true}
 use mathlib.Core.List.{List, [], ◌∷◌, ◌++◌}
-use Prim.Native.Nat.{ℕ, zero, suc, ◌+◌, ◌*◌, ◌-◌, ◌≤◌, ◌<◌}
+use Prim.Native.Nat.{ℕ, ◌+◌, ◌*◌, ◌-◌, ◌≤◌}
 use native.Mathlib.Omega.{arith}
-use lib.ListN.{length, take, drop, length-append, length-drop}
+use lib.ListN.{length, drop, length-append, length-drop}
 use lib.Seq.{take_all, drop-drop}
 use lib.Dec.{leb, eqb}
 use borrow.Author.Tests.{le-leb, leb-true, eq-eqb, eqb-true}
 use Rattle.laws.proofs.Tests.{both, by-test}
-use Rattle.octets.specs.Numbers.{Octets, octet, word16, word32, octets16, octets32}
+use Rattle.octets.specs.Numbers.{Octets, octet, word16, word32, octets16}
 use Rattle.octets.specs.Copy.{between}
 use Rattle.octets.proofs.Octets.{drop_octets, word16_small, word32_small}
 use Rattle.octets.proofs.Words.{octets16_of_word16, octets32_of_word32, run, run_drop, run_all}
@@ -23,10 +23,9 @@ use Rattle.blocks.specs.Form.{blocks_most}
 use Rattle.reports.specs.Source.{failure, dump_head, check_head}
 use Rattle.contents.specs.declared.Kind.{Kind}
 use Rattle.contents.specs.declared.Kind.TheVariants.{Acceptance, Failure, Completion, Dump, Check, Connection, Unknown}
-use Rattle.contents.specs.declared.Entry.{Entry}
 use Rattle.contents.specs.Kinds.{service_kind, memory_kind, kind_of, is_known, type_of, subtype_of}
 use Rattle.contents.specs.Source.{dump_head_size, entry_size, entries_in, lengths_right_of, dump_formed, check_formed, formed, contents_in}
-use Rattle.contents.specs.Told.{Told, acceptance, refusal, completion, dump, check, connection, nothing, kind_told, entries_laid, source_of, DumpFits, Fits, told_by}
+use Rattle.contents.specs.Told.{Told, acceptance, refusal, completion, dump, check, connection, nothing, kind_told, entries_laid, source_of, Fits, told_by}
 use Rattle.contents.proofs.Numbers.{pair_octets, read16, entries_length, entries_again, entries_fit, entries_read, entries_right, laid-length}
 
 -- What source data of a kind tells.

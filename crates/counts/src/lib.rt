@@ -1,4 +1,6 @@
 // The counts of the terminal's reports, one for each category. 16,383 is followed by 0.
+#![tactic(auto)]
+
 ghost use Rattle.std.specs.Prelude.{◌≡◌};
 ghost use Rattle.counts.specs.Counts.{no_counts, counts_in, next_count, category_of, count_for, counted, in_range};
 
@@ -43,6 +45,7 @@ pub fn counts_in(s: &[u8]) -> Counts
 }
 
 // The category of a service's reports.
+#[tactic(auto, unfolding(crate::specs::Counts::category_of))]
 pub fn category(kind: u8) -> u16
     ensures { result ≡ category_of kind }
 {
@@ -57,6 +60,7 @@ pub fn next_count(count: u16) -> u16
 }
 
 // Whether every count has 14 bits.
+#[tactic(auto, unfolding(crate::specs::Counts::in_range))]
 pub fn in_range(counts: Counts) -> bool
     ensures { result ≡ in_range counts }
 {
@@ -67,6 +71,7 @@ pub fn in_range(counts: Counts) -> bool
 }
 
 // The count that the next report of a service is stamped with.
+#[tactic(auto, unfolding(crate::specs::Counts::count_in))]
 pub fn count_for(counts: Counts, kind: u8) -> u16
     ensures { result ≡ count_for counts kind }
 {
@@ -78,6 +83,7 @@ pub fn count_for(counts: Counts, kind: u8) -> u16
 }
 
 // The counts after a report of a service.
+#[tactic(auto, unfolding(crate::specs::Counts::advanced))]
 pub fn counted(counts: Counts, kind: u8) -> Counts
     ensures { result ≡ counted counts kind }
 {

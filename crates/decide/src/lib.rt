@@ -1,4 +1,6 @@
 // Decides on a packet: the common checks, and then those of what it asks for.
+#![tactic(auto)]
+
 ghost use Rattle.std.specs.Prelude.{◌≡◌};
 ghost use Rattle.decide.specs.Table.{caller_right, packet_decision, decision_of};
 

@@ -1,5 +1,5 @@
 -- docs/JUDGE.md, "What is told of a line that differs".
-use Rattle.std.specs.Prelude.{Bool, true, false, cond, List, [], ◌∷◌, ◌++◌, ℕ, length, take, drop, leb}
+use Rattle.std.specs.Prelude.{cond, List, [], ◌∷◌, ◌++◌, ℕ, length, take, drop, leb}
 use Rattle.characters.specs.Digits.{text_of, upper_text, octets_in}
 use Rattle.lines.specs.Lines.{newline}
 use Rattle.words.specs.Ascii.{ascii}

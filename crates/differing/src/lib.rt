@@ -1,4 +1,6 @@
 // What is told of a line of a record that differs.
+#![tactic(auto)]
+
 ghost use Rattle.std.specs.Prelude.{◌≡◌, ◌++◌, take, drop};
 ghost use Rattle.characters.specs.Digits.{text_of, upper_text};
 ghost use Rattle.words.specs.Ascii.{ascii};

@@ -1,4 +1,6 @@
 // The head of a telecommand packet: whether its length and its header are what document 01 asks for.
+#![tactic(auto)]
+
 ghost use Rattle.std.specs.Prelude.{◌≡◌, min};
 ghost use Rattle.heading.specs.Heading.{length_right, first_fault, header_fault};
 
@@ -20,6 +22,7 @@ pub fn capped(n: usize) -> u16
 }
 
 // Whether the received count is one that check 1 passes.
+#[tactic(auto, unfolding(crate::specs::Heading::length_right))]
 pub fn length_right(p: &[u8]) -> bool
     ensures { result ≡ length_right p.now }
 {
@@ -34,6 +37,7 @@ pub fn length_right(p: &[u8]) -> bool
 }
 
 // The first wrong of the five header fields that check 16 looks at, from 1; 0 where none is.
+#[tactic(auto, unfolding(crate::specs::Heading::header_fault))]
 pub fn header_fault(p: &[u8]) -> u16
     ensures { result ≡ header_fault p.now }
 {
@@ -43,6 +47,7 @@ pub fn header_fault(p: &[u8]) -> u16
     first_fault(id, control, head)
 }
 
+#[tactic(auto, unfolding(crate::specs::Heading::first_fault, laws::specs::First::first_from))]
 fn first_fault(id: PacketId, control: Sequence, head: Header) -> u16
     ensures { result ≡ first_fault id control head }
 {

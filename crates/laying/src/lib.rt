@@ -1,4 +1,6 @@
 // Lays one report into the output buffer, stamped for its sender, and counts it.
+#![tactic(auto)]
+
 ghost use Rattle.std.specs.Prelude.{◌≡◌, ◌+◌, ◌%◌, [], ◌∷◌};
 ghost use Rattle.octets.specs.Copy.{laid};
 ghost use Rattle.counts.specs.Counts.{counted};

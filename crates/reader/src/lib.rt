@@ -1,4 +1,6 @@
 // The reader: checks 42, 1, 2 and 16 on any octets at all, the fields, and the application data as a part of the packet itself.
+#![tactic(auto)]
+
 ghost use Rattle.std.specs.Prelude.{◌≡◌};
 ghost use Rattle.reader.specs.Reader.{judged, Reads};
 

@@ -1,4 +1,6 @@
 // What is decided on a packet, and the checks of each service.
+#![tactic(auto)]
+
 ghost use Rattle.std.specs.Prelude.{◌≡◌};
 ghost use Rattle.checks.specs.Verdict.{refusal};
 ghost use Rattle.serving.specs.Services.{connection_decision, memory_decision, area_decision};

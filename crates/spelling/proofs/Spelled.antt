@@ -1,17 +1,17 @@
 -- A line that spells a frame is a packet line, and its octets agree with the frame's.
 -- Assumes nothing.
 use mathlib.Core.Path.{◌≡◌, refl, sym, ap, ap₂, ◌∙◌}
-use mathlib.Core.Bool.{Bool, true, false, false≢true, ◌&&◌}
+use mathlib.Core.Bool.{true, ◌&&◌}
 use mathlib.Core.List.{List, [], ◌∷◌, ◌++◌}
-use Prim.Native.Nat.{ℕ, zero, suc, ◌+◌, ◌*◌, ◌-◌, ◌/◌, ◌%◌, ◌≤◌, ◌<◌}
+use Prim.Native.Nat.{ℕ, zero, suc, ◌*◌, ◌/◌, ◌%◌, ◌≤◌, ◌<◌}
 use native.Mathlib.Omega.{arith}
 use lib.ListN.{length, take, drop, take-append-drop, length-drop}
 use lib.Seq.{length-take-le, drop-drop}
 use lib.Dec.{eqb, leb, ltb}
-use borrow.Author.Tests.{eqb-true, leb-true, ltb-true, lt-ltb, eq-eqb, ne_eqb, le-leb, lt-leb}
+use borrow.Author.Tests.{eqb-true, leb-true, ltb-true}
 use Rattle.laws.proofs.Tests.{both}
 use Rattle.octets.specs.Numbers.{Octets}
-use Rattle.characters.specs.Digits.{digit_of, text_of, is_digit_of, all_digits_of, octets_in, bad_place}
+use Rattle.characters.specs.Digits.{digit_of, text_of, all_digits_of, octets_in}
 use Rattle.characters.proofs.Digits.{text_length}
 use Rattle.characters.proofs.Texts.{octets_length}
 use Rattle.characters.proofs.Back.{text_digits, text_back, digits_append, octets_append}

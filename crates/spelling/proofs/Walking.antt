@@ -2,19 +2,18 @@
 -- Assumes nothing.
 use mathlib.Core.Path.{◌≡◌, refl, sym, ap, ap₂, ◌∙◌}
 use mathlib.Core.Bool.{Bool, true, false, ◌&&◌}
-use mathlib.Core.List.{List, [], ◌∷◌}
-use Prim.Native.Nat.{ℕ, ◌+◌, ◌*◌, ◌/◌, ◌%◌, ◌≤◌, ◌<◌}
+use mathlib.Core.List.{List}
+use Prim.Native.Nat.{ℕ, ◌+◌, ◌*◌, ◌/◌, ◌≤◌, ◌<◌}
 use native.Mathlib.Omega.{arith}
 use lib.ListN.{length, get_or, take, drop, drop_of_length-le, length-drop, length-take}
 use lib.Seq.{take_all}
-use lib.Dec.{eqb, leb, ltb}
-use borrow.Author.Tests.{lt-ltb, eq-eqb, ne_eqb, le-leb, lt-leb}
+use lib.Dec.{eqb}
+use borrow.Author.Tests.{lt-ltb, eq-eqb, ne_eqb}
 use Rattle.laws.proofs.Lists.{drop_next}
 use Rattle.characters.specs.Digits.{digit_of, all_digits_of, bad_place}
 use Rattle.characters.proofs.Texts.{two_more}
 use Rattle.characters.proofs.Places.{digits_place}
 use Rattle.tm.specs.Frame.{time_first, time_end}
-use Rattle.packetline.specs.Packet.{line_most}
 use Rattle.spelling.specs.Spelling.{spelled, spelled_all, sized_for, spelled_apart, spells_frame}
 
 -- ---- one octet

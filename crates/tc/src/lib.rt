@@ -1,4 +1,6 @@
 // Telecommand packets of document 01: the layout that reader and writer share.
+#![tactic(auto)]
+
 ghost use Rattle.std.specs.Prelude.{◌≡◌};
 ghost use Rattle.tc.specs.Layout.{flag_of, method_of, value_by};
 

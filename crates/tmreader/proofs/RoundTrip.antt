@@ -22,14 +22,11 @@ use Rattle.counts.proofs.Counting.{category_small}
 use Rattle.tm.specs.declared.Stamp.{Stamp}
 use Rattle.tm.specs.Frame.{frame_head, uncounted, time_of, head_of, frame_of, frame_size}
 use Rattle.tm.proofs.Frame.{frame_length, frame_size_lem}
-use Rattle.contents.specs.declared.Kind.{Kind}
-use Rattle.contents.specs.Kinds.{kind_of, is_known, type_of, subtype_of}
+use Rattle.contents.specs.Kinds.{is_known, type_of, subtype_of}
 use Rattle.contents.specs.Source.{formed, contents_in}
 use Rattle.contents.specs.Told.{Told, kind_told, source_of, Fits, told_by}
 use Rattle.contents.proofs.Sources.{told_from, told-parts, told_kind, source_again, source_fits, fits_formed, fits_told, fits_known, fits_short, kind_again, known_type}
-use Rattle.tmreader.specs.declared.Flaw.{Flaw}
-use Rattle.tmreader.specs.declared.Verdict.{Verdict}
-use Rattle.tmreader.specs.declared.Verdict.TheVariants.{Clean, Refused}
+use Rattle.tmreader.specs.declared.Verdict.TheVariants.{Clean}
 use Rattle.tmreader.specs.Reader.{is_clean, size_right, bits_right, head_right, kind_in, kind_right, source_in, source_right, frame_rows, judged, time_in, stamp_in, reading_of}
 use Rattle.tmreader.specs.Telling.{stamp_for, frame_for, ReadsAs, StampFits, IsFrame}
 use Rattle.tmreader.proofs.Judged.{judged_clean, clean_holds}

@@ -1,4 +1,6 @@
 // The reader of telemetry frames: checks 60 to 63 on any octets at all, the stamp, and what the frame tells, with words and entries as parts of the frame itself.
+#![tactic(auto)]
+
 ghost use Rattle.std.specs.Prelude.{◌≡◌};
 ghost use Rattle.tmreader.specs.Reader.{flaw_number, is_clean, number_of, size_right, bits_right, head_right, kind_in, kind_right, source_in, source_right, judged, time_in, stamp_in, Reads};
 
@@ -131,6 +133,7 @@ fn judge(f: &[u8]) -> Verdict
 }
 
 // 60: at least 16 octets, and the length field plus 7.
+#[tactic(auto, unfolding(crate::specs::Reader::size_right))]
 fn size_right(f: &[u8]) -> bool
     ensures { result ≡ size_right f.now }
 {
@@ -141,6 +144,7 @@ fn size_right(f: &[u8]) -> bool
 }
 
 // Version, type bit, header flag and sequence flags.
+#[tactic(auto, unfolding(crate::specs::Reader::bits_right))]
 fn bits_right(id: PacketId, control: Sequence) -> bool
     ensures { result ≡ bits_right id control }
 {
@@ -157,6 +161,7 @@ fn bits_right(id: PacketId, control: Sequence) -> bool
 }
 
 // 61: the header bits, and the octets that are zero.
+#[tactic(auto, unfolding(crate::specs::Reader::head_right))]
 fn head_right(f: &[u8]) -> bool
     ensures { result ≡ head_right f.now }
 {
@@ -180,6 +185,7 @@ fn kind(f: &[u8]) -> Kind
 }
 
 // 62: one of the six kinds, and its category.
+#[tactic(auto, unfolding(crate::specs::Reader::kind_right))]
 fn kind_right(f: &[u8]) -> bool
     ensures { result ≡ kind_right f.now }
 {
@@ -212,6 +218,7 @@ fn time(f: &[u8]) -> [u8; 6]
 }
 
 // The stamp: whose frame it is, its count, its time, its type and subtype.
+#[tactic(auto, unfolding(crate::specs::Reader::stamp_in))]
 fn stamp(f: &[u8]) -> Stamp
     ensures { result ≡ stamp_in f.now }
 {

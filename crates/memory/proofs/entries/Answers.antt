@@ -1,6 +1,6 @@
 -- `memory::entries` meets its contract, entry by entry.
 -- Assumes nothing.
-use Rattle.std.proofs.Common.{rules, arith, ◌≡◌, sym, ap₂, ◌∙◌, ℕ, ◌+◌, List}
+use Rattle.std.proofs.Common.{arith, ◌≡◌, sym, ap₂, ◌∙◌, ℕ, ◌+◌, List}
 use Rattle.std.proofs.Math.Nat.{add-zero}
 use Rattle.octets.specs.Copy.{laid}
 use Rattle.blocks.specs.declared.Block.{Block}
