@@ -1,10 +1,10 @@
 -- Two records that conform and begin alike go on alike up to the end of the group: so no TM line can be left out, added or moved.
 -- Assumes nothing.
-use mathlib.Core.Path.{◌≡◌, refl, sym, ap, subst, ◌∙◌}
+use mathlib.Core.Path.{◌≡◌, refl, ap, subst}
 use mathlib.Core.List.{List, [], ◌∷◌, ◌++◌}
 use Prim.Native.Nat.{ℕ, ◌+◌}
 use native.Mathlib.Omega.{arith}
-use lib.ListN.{length, length-append}
+use lib.ListN.{length}
 use Rattle.map.specs.declared.Profile.{Profile}
 use Rattle.hexline.specs.Line.{Station}
 use Rattle.conforming.specs.Groups.{Line, Group, Filled, groups_of, first_group, other_groups}

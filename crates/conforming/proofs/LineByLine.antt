@@ -1,6 +1,6 @@
 -- The verdict on a record, line by line: outside of a group, and inside of one, where some frames are still due.
 -- Assumes nothing.
-use mathlib.Core.Path.{◌≡◌, refl, sym, ap, ◌∙◌}
+use mathlib.Core.Path.{◌≡◌, refl, ap, ◌∙◌}
 use mathlib.Core.Bool.{true, false}
 use mathlib.Core.List.{List, [], ◌∷◌, ◌++◌}
 use Prim.Native.Nat.{ℕ, ◌+◌}
@@ -13,7 +13,7 @@ use Rattle.hexline.specs.Line.{Station}
 use Rattle.beside.specs.Beside.{agrees}
 use Rattle.conforming.specs.Groups.{Line, Group, groups_of, first_group, other_groups}
 use Rattle.conforming.specs.Conforms.{frames_for, after_tc}
-use Rattle.conforming.specs.Findings.{Finding, blank, packet, frame, bad, differs, first_of, rest_of, finding_of, finding_tc, beside_all, findings_from}
+use Rattle.conforming.specs.Findings.{blank, frame, bad, differs, first_of, rest_of, finding_of, beside_all, findings_from}
 use Rattle.conforming.specs.Verdict.{Verdict, Differs, Refused70, concluded, ruled_from, verdict_of}
 use Rattle.conforming.proofs.Giving.{empty_packet}
 use Rattle.conforming.proofs.Standing.{groups_line}

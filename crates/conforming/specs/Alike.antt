@@ -1,7 +1,6 @@
 -- Records that are alike: the same TCs, and TM lines that are the same but for their times.
-use Rattle.std.specs.Prelude.{◌≡◌, true, false, List, [], ◌∷◌, ℕ, length, get_or}
+use Rattle.std.specs.Prelude.{◌≡◌, false, List, [], ◌∷◌, ℕ, length, get_or}
 use Rattle.characters.specs.Digits.{octets_in}
-use Rattle.packetline.specs.Packet.{is_packet}
 use Rattle.beside.specs.Beside.{is_time}
 use Rattle.conforming.specs.Groups.{Line, Group}
 

@@ -1,26 +1,23 @@
 -- The first demand is met by the terminal, the reader and the writer of document 01.
 -- Assumes nothing.
 use mathlib.Core.Path.{◌≡◌, refl, sym, ap, ◌∙◌}
-use mathlib.Core.Bool.{true, false, cond, false≢true}
+use mathlib.Core.Bool.{true, false, false≢true}
 use mathlib.Core.List.{List, [], append-nil}
 use Prim.Native.Nat.{ℕ, ◌+◌, ◌≤◌, ◌<◌}
 use native.Mathlib.Omega.{arith}
 use lib.ListN.{length}
-use lib.Dec.{leb}
 use borrow.Author.Tests.{le-leb, lt-leb}
 use Rattle.laws.specs.Fold.{joined}
 use Rattle.laws.proofs.Tests.{by-test}
 use Rattle.octets.specs.Copy.{placed, nowhere}
 use Rattle.octets.proofs.Between.{between_front}
 use Rattle.checks.specs.declared.Refusal.{Refusal}
-use Rattle.checks.specs.declared.Verdict.{Verdict}
 use Rattle.checks.specs.Verdict.{is_accepted, number_of, verdict_by}
 use Rattle.checks.specs.Table.{Row}
 use Rattle.checks.proofs.Numbers.{silent_numbers, silent_refuses}
-use Rattle.checks.proofs.Table.{row-passes, row_refuses, rows_end}
 use Rattle.checks.proofs.Verdicts.{first_refuses, all_accept, refused-first}
-use Rattle.tc.specs.Layout.{around, data_most, fields_of, application_of, data_span}
-use Rattle.reader.specs.Reader.{reader_rows, judged, no_fields, reading_of}
+use Rattle.tc.specs.Layout.{around, data_most, application_of}
+use Rattle.reader.specs.Reader.{reader_rows, judged, reading_of}
 use Rattle.writer.specs.declared.Order.{Order}
 use Rattle.writer.specs.declared.Written.{Written}
 use Rattle.writer.specs.declared.Written.TheVariants.{Packet}

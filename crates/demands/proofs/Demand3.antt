@@ -1,10 +1,9 @@
 -- The third demand is met by the terminal of document 01.
 -- Assumes nothing.
 use mathlib.Core.Path.{◌≡◌, refl, sym, ap, ap₂, subst, ◌∙◌}
-use mathlib.Core.Bool.{true, false}
-use mathlib.Core.Logic.{◌⊎◌, inl, inr, ⊎_elim}
+use mathlib.Core.Logic.{inl, inr, ⊎_elim}
 use mathlib.Core.List.{List, [], ◌∷◌, ◌++◌, append_assoc}
-use Prim.Native.Nat.{ℕ, ◌+◌, ◌≤◌}
+use Prim.Native.Nat.{ℕ, ◌+◌}
 use native.Mathlib.Omega.{arith}
 use lib.ListN.{length, drop, length-append}
 use Rattle.laws.specs.Each.{among}
@@ -14,17 +13,15 @@ use Rattle.checks.specs.declared.Check.TheVariants.{Outside}
 use Rattle.checks.specs.declared.Verdict.{Verdict}
 use Rattle.checks.specs.declared.Verdict.TheVariants.{Refused}
 use Rattle.checks.specs.Verdict.{is_accepted, number_of, detail_of, refusal}
-use Rattle.map.specs.declared.Profile.{Profile}
-use Rattle.wider.specs.Wider.{wider}
 use Rattle.wider.proofs.Widening.{wider_facts}
 use Rattle.tm.specs.Frame.{head_of, frame_of, time_of}
 use Rattle.reports.specs.Source.{echo_of, failure}
 use Rattle.terminal.specs.Outcome.{Input, verdict_on, outcome_of}
-use Rattle.terminal.specs.Run.{Machine, Step, Answer, input_for}
+use Rattle.terminal.specs.Run.{Machine, Answer, input_for}
 use Rattle.terminal.proofs.Storing.{store_length}
 use Rattle.demands.specs.Terminal.{reference, leaves, run_of}
 use Rattle.demands.specs.Refusing.{refusal_frame, Reported}
-use Rattle.demands.specs.Widening.{Agree, Widens, ButForDetail, SameReports}
+use Rattle.demands.specs.Widening.{Agree, Widens, SameReports}
 use Rattle.demands.proofs.Rows.{same_verdict, no_earlier}
 use Rattle.demands.proofs.Numbered.{same_number}
 use Rattle.demands.proofs.Answers.{same_answer}

@@ -1,10 +1,8 @@
 -- Demands 1 and 2 leave no choice: whatever terminal meets them is that of document 01, and so over a run.
 -- Assumes nothing.
-use mathlib.Core.Path.{◌≡◌, refl, sym, ap, ap₂, subst, ◌∙◌}
-use mathlib.Core.Bool.{true, false, false≢true}
+use mathlib.Core.Path.{◌≡◌, refl, sym, ap, subst, ◌∙◌}
 use mathlib.Core.Logic.{⊎_elim}
 use mathlib.Core.List.{List, [], ◌∷◌, ◌++◌}
-use Prim.Native.Nat.{ℕ}
 use lib.ListN.{drop}
 use Rattle.laws.specs.Fold.{answers}
 use Rattle.laws.proofs.Tests.{by-test}
@@ -14,7 +12,6 @@ use Rattle.checks.specs.Verdict.{is_accepted}
 use Rattle.checks.specs.Table.{Row}
 use Rattle.checks.proofs.Table.{answer-from}
 use Rattle.map.specs.declared.Profile.{Profile}
-use Rattle.decide.specs.declared.State.{State}
 use Rattle.terminal.specs.Outcome.{Input, verdict_on, outcome_of}
 use Rattle.terminal.specs.Run.{Machine, Step, Answer, input_for, after}
 use Rattle.demands.specs.Terminal.{Terminal, reference, rows_on, leaves, run_of}

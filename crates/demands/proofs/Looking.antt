@@ -14,7 +14,7 @@ use Rattle.laws.proofs.Tests.{by-test}
 use Rattle.octets.specs.Numbers.{Octets, octet, word16, word32}
 use Rattle.octets.specs.Copy.{between, placed}
 use Rattle.octets.proofs.Between.{between-eq, between-octet, between-word16, between-word32, between_most}
-use Rattle.fields.specs.Fields.{header, apid_of}
+use Rattle.fields.specs.Fields.{apid_of}
 use Rattle.checks.specs.declared.Check.TheVariants.{Short, Length, Control, Header as BadHeader, Apid, Service, Subtype, Form, Memory, Right, Outside}
 use Rattle.checks.specs.declared.Refusal.{Refusal}
 use Rattle.checks.specs.Table.{Row, First}

@@ -11,13 +11,11 @@ use Rattle.laws.specs.Fold.{answers}
 use Rattle.octets.specs.Numbers.{octet}
 use Rattle.octets.specs.declared.copy.Span.{Span}
 use Rattle.octets.specs.Copy.{laid, placed}
-use Rattle.octets.proofs.Laid.{laid-length, laid_elsewhere, laid-inside}
-use Rattle.checks.specs.declared.Check.TheVariants.{Caller}
+use Rattle.octets.proofs.Laid.{laid_elsewhere, laid-inside}
 use Rattle.checks.specs.declared.Refusal.{Refusal}
 use Rattle.checks.specs.declared.Verdict.{Verdict}
-use Rattle.checks.specs.declared.Verdict.TheVariants.{Accepted, Refused}
+use Rattle.checks.specs.declared.Verdict.TheVariants.{Refused}
 use Rattle.checks.specs.Verdict.{is_accepted}
-use Rattle.tc.specs.Layout.{data_span}
 use Rattle.reader.specs.Reader.{reader_rows, judged, reading_of}
 use Rattle.tc.specs.declared.Method.TheVariants.{Crc}
 use Rattle.writer.specs.declared.Order.{Order}
@@ -42,7 +40,7 @@ use Rattle.demands.specs.Refusing.{unreported, Refuses, ReaderRefuses, WriterRef
 use Rattle.demands.specs.Serving.{Reports, RunServes, RoundTrips}
 use Rattle.demands.specs.Loading.{Over}
 use Rattle.demands.specs.Widening.{parts, rank, Agree, Widens}
-use Rattle.demands.specs.Cases.{command, block, first_line, second_line, from, line_input, narrow, wide, over}
+use Rattle.demands.specs.Cases.{command, block, first_line, second_line, from, line_input, narrow, wide}
 use Rattle.demands.specs.StandIns.{RefusalAt, left_alone, one_refusal, Refuser, Fixed, Keeper, OnlyFirst, Invents, refuses_by, reports_only, Shifted, Silent, Hasty, FirstStays, Picky, OneCount, Uncounted, Leaks, NeverWrites, Touches}
 use Rattle.demands.proofs.Computing.{all}
 use Rattle.demands.proofs.Demand1.{reader_refuses}

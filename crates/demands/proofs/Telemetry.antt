@@ -1,26 +1,23 @@
 -- The reader of frames, and the terminal's frames before it, meet the second demand.
 -- Assumes nothing.
-use mathlib.Core.Path.{◌≡◌, refl, sym, ap, ap₂, subst, ◌∙◌}
-use mathlib.Core.Bool.{true, false, false≢true}
+use mathlib.Core.Path.{◌≡◌, refl, sym, ap, subst, ◌∙◌}
+use mathlib.Core.Bool.{false, false≢true}
 use mathlib.Core.Logic.{⊎_elim}
-use mathlib.Core.List.{List, [], ◌∷◌}
-use Prim.Native.Nat.{ℕ}
+use mathlib.Core.List.{List}
 use lib.ListN.{length, take}
-use Rattle.octets.specs.Numbers.{Octets}
 use Rattle.checks.specs.Table.{Row, First, AllHold, answer}
 use Rattle.checks.proofs.Table.{first_gives, all_give, answer-from}
 use Rattle.tm.specs.Frame.{cut}
 use Rattle.tmreader.specs.declared.Flaw.{Flaw}
 use Rattle.tmreader.specs.declared.Verdict.TheVariants.{Clean, Refused}
-use Rattle.tmreader.specs.Reader.{flaw_number, is_clean, number_of, frame_rows, judged, reading_of}
+use Rattle.tmreader.specs.Reader.{is_clean, number_of, frame_rows, judged, reading_of}
 use Rattle.tmreader.proofs.RoundTrip.{clean_frame}
-use Rattle.terminal.specs.Outcome.{Input, frames_due, octets_due, outcome_of, out_after}
-use Rattle.terminal.proofs.Due.{written_due, front_due, due-cut}
-use Rattle.framing.specs.Framing.{InOctets}
+use Rattle.terminal.specs.Outcome.{frames_due, octets_due, outcome_of, out_after}
+use Rattle.terminal.proofs.Due.{front_due, due-cut}
 use Rattle.framing.specs.Reading.{DueRead}
 use Rattle.framing.proofs.Reading.{due_read}
 use Rattle.demands.specs.Terminal.{reference}
-use Rattle.demands.specs.Telemetry.{FirstHas, RefusedBy, DecidesFrame, FrameOrder, ReadsFrames, FramesReadBack}
+use Rattle.demands.specs.Telemetry.{DecidesFrame, FrameOrder, ReadsFrames, FramesReadBack}
 use Rattle.demands.proofs.Demand1.{none-placed}
 
 module _ (table : List (Row Flaw)) where

@@ -1,5 +1,5 @@
 -- Any reader and any writer at all; those of document 01 are two of them.
-use Rattle.std.specs.Prelude.{◌≡◌, List, ℕ, ◌/◌, ◌%◌, ◌<◌, length}
+use Rattle.std.specs.Prelude.{◌≡◌, List, ℕ, ◌/◌, ◌%◌, length}
 use Rattle.octets.specs.Copy.{placed}
 use Rattle.tc.specs.declared.Fields.{Fields}
 use Rattle.reader.specs.declared.Reading.{Reading}

@@ -1,5 +1,5 @@
 -- Document 01, "Five stand-ins have to be rejected", and other wrong terminals, readers and writers: families, each said by what all of its members do.
-use Rattle.std.specs.Prelude.{◌≡◌, true, false, ◌⊎◌, List, [], ◌∷◌, ℕ, ◌-◌, length, leb}
+use Rattle.std.specs.Prelude.{◌≡◌, true, false, List, [], ◌∷◌, ℕ, ◌-◌, length, leb}
 use Rattle.octets.specs.Numbers.{octet}
 use Rattle.octets.specs.Copy.{laid}
 use Rattle.checks.specs.declared.Check.TheVariants.{Caller}
@@ -22,7 +22,7 @@ use Rattle.tm.specs.declared.Stamp.{Stamp}
 use Rattle.tm.specs.Frame.{Report, frame_of, frames_of, time_of}
 use Rattle.laws.specs.Fold.{joined}
 use Rattle.laying.specs.Reports.{failed}
-use Rattle.terminal.specs.Outcome.{Input, done_by, state_after, verdict_on, octets_due}
+use Rattle.terminal.specs.Outcome.{Input, done_by, state_after, octets_due}
 use Rattle.terminal.specs.Run.{Machine, Step, Answer}
 use Rattle.demands.specs.Terminal.{Terminal, reference}
 use Rattle.demands.specs.Packets.{Reader, Writer}

@@ -1,5 +1,5 @@
 -- The second demand with document 02's wish 1, of any reader of frames and any terminal: "What the terminal writes reads back as the same fields; what reads cleanly is a frame by 01's TM layouts, whatever values service 1 carries in them. [..] Refusals, in order: 60 [..], 61 [..], 62 [..], 63 [..]."
-use Rattle.std.specs.Prelude.{◌≡◌, true, false, List, [], ◌∷◌, map, ℕ, take}
+use Rattle.std.specs.Prelude.{◌≡◌, false, List, [], ◌∷◌, map, ℕ, take}
 use Rattle.octets.specs.Numbers.{Octets}
 use Rattle.octets.specs.Copy.{placed}
 use Rattle.checks.specs.Table.{Row, First, AllHold}

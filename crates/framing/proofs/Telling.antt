@@ -5,12 +5,11 @@ use mathlib.Core.Bool.{Bool, true, false, false≢true}
 use mathlib.Core.List.{List, [], ◌∷◌, ◌++◌, map}
 use Prim.Native.Nat.{ℕ, ◌+◌, ◌≤◌, ◌<◌}
 use native.Mathlib.Omega.{arith}
-use lib.ListN.{length, take, length-map}
-use lib.Dec.{leb}
+use lib.ListN.{length, length-map}
 use Rattle.laws.specs.Each.{Each}
-use Rattle.laws.proofs.Each.{each_so, each_both, each_append, each_map}
+use Rattle.laws.proofs.Each.{each_so, each_append, each_map}
 use Rattle.laws.proofs.Tests.{by-test}
-use Rattle.octets.specs.Numbers.{Octets, octet, word16, octets16}
+use Rattle.octets.specs.Numbers.{Octets, word16, octets16}
 use Rattle.octets.proofs.Octets.{word16_small}
 use Rattle.octets.proofs.Words.{run, run_take}
 use Rattle.checks.specs.Table.{AllHold}
@@ -18,7 +17,6 @@ use Rattle.checks.specs.declared.Verdict.{Verdict}
 use Rattle.checks.specs.declared.Verdict.TheVariants.{Accepted, Refused}
 use Rattle.checks.specs.Verdict.{is_accepted, silent, number_of, detail_of}
 use Rattle.checks.proofs.Numbers.{silent_refuses}
-use Rattle.crc.specs.Register.{crc_of}
 use Rattle.crc.proofs.Laws.{crc_lt}
 use Rattle.tc.specs.Layout.{fields_of, application_of}
 use Rattle.reader.proofs.Details.{application_octets}
@@ -27,17 +25,16 @@ use Rattle.map.specs.declared.Area.{Area}
 use Rattle.map.specs.declared.Profile.{Profile}
 use Rattle.map.specs.declared.Found.{Found}
 use Rattle.map.specs.declared.Found.TheVariants.{At, Nothing}
-use Rattle.map.specs.Place.{word_octets, dump_words, inside, octet_at, octets_of}
+use Rattle.map.specs.Place.{dump_words, inside, octet_at, octets_of}
 use Rattle.map.specs.Sound.{sound}
 use Rattle.map.proofs.Finding.{found_sound}
 use Rattle.map.proofs.Octets.{inside_store, octets_words, stored_length, stored_octets}
 use Rattle.blocks.specs.declared.Block.{Block}
 use Rattle.blocks.specs.Blocks.{first_place, memory_id, block_count, blocks_of}
-use Rattle.blocks.specs.Form.{blocks_most}
 use Rattle.blocks.proofs.Blocks.{Bounds, blocks_length, blocks_read}
 use Rattle.blocks.proofs.Octets.{ReadIn, block_small}
 use Rattle.blocks.proofs.WellFormed.{head_facts, right_bounds}
-use Rattle.reports.specs.Source.{echo_of, check_head, check_entry}
+use Rattle.reports.specs.Source.{echo_of, check_head}
 use Rattle.requests.specs.declared.Action.{Action}
 use Rattle.requests.specs.declared.Action.TheVariants.{Load, Dump, Check}
 use Rattle.requests.specs.declared.Request.TheVariants.{Memory as Asks, Connection as AsksConnection}
@@ -47,9 +44,9 @@ use Rattle.requests.specs.Request.{carried_by, most_words, area_named}
 use Rattle.requests.proofs.Outside.{all-inside}
 use Rattle.contents.specs.declared.Entry.{Entry}
 use Rattle.contents.proofs.Numbers.{pair_octets}
-use Rattle.contents.specs.Told.{Told, acceptance, completion, refusal, dump, check, connection, entries_laid, source_of, report_of, EntryFits, Fits}
+use Rattle.contents.specs.Told.{Told, entries_laid, report_of, EntryFits, Fits}
 use Rattle.memory.specs.Memory.{stored_of, entry_of, entries_of}
-use Rattle.laying.specs.Reports.{echo, failed, dumped, checked, connected, asked, asks_acceptance, asks_completion}
+use Rattle.laying.specs.Reports.{echo, failed, dumped, asked, asks_acceptance, asks_completion}
 use Rattle.serving.specs.declared.Task.{Task}
 use Rattle.serving.specs.declared.Task.TheVariants.{Idle, Memory, Connection}
 use Rattle.serving.specs.Services.{Formed, memory_task}
