@@ -1,4 +1,6 @@
 // The area that a line of a unit file states: `area ID start N words N at N [size N] [RIGHT ..]`.
+#![tactic(auto)]
+
 ghost use Rattle.std.specs.Prelude.{◌≡◌, cond, ◌≤◌};
 ghost use Rattle.map.specs.Made.{blank};
 ghost use Rattle.words.specs.Words.{same_text};

@@ -1,4 +1,6 @@
 // What the words behind an item of a unit file state: a number, services or rights, octets.
+#![tactic(auto)]
+
 ghost use Rattle.std.specs.Prelude.{◌≡◌, ◌||◌, ◌+◌, min, eqb};
 ghost use Rattle.octets.specs.Copy.{laid};
 ghost use Rattle.stating.specs.Stating.{words_behind, numeral_fault, numeral_value, number_at, flag_named, has_flag, with_flag, no_flags, flags_from, digits_from, octets_stated};

@@ -1,4 +1,6 @@
 // The unit that a unit file states so far: its profile, how long its store is, and what an item adds to it.
+#![tactic(auto)]
+
 ghost use Rattle.std.specs.Prelude.{◌≡◌};
 ghost use Rattle.stating.specs.Stating.{words_behind};
 ghost use Rattle.unit.specs.Unit.{nothing_stated, is_some, with_pid, with_services, with_store, end_fault};
@@ -65,6 +67,7 @@ pub fn nothing() -> Draft
 }
 
 // What is wrong at the end: `pid` or `store` is missing.
+#[tactic(auto, unfolding(crate::specs::Unit::end_fault))]
 pub fn missing(d: Draft) -> u8
     ensures { result ≡ end_fault d }
 {
