@@ -1,28 +1,19 @@
 -- What is due, and what is left of the store, by the kind of the verdict.
 -- Assumes nothing.
-use mathlib.Core.Path.{◌≡◌, refl, ap, ◌∙◌}
+use mathlib.Core.Path.{◌≡◌, refl}
 use mathlib.Core.Bool.{true, false}
-use mathlib.Core.List.{List, [], ◌∷◌}
-use Prim.Native.Nat.{ℕ, ◌≤◌}
+use mathlib.Core.List.{[], ◌∷◌}
+use Prim.Native.Nat.{◌≤◌}
 use native.Mathlib.Omega.{arith}
-use native.Mathlib.Nat.{zero-add}
 use lib.ListN.{length}
-use Rattle.octets.specs.Copy.{laid}
-use Rattle.checks.specs.declared.Verdict.{Verdict}
 use Rattle.checks.specs.Verdict.{is_accepted, silent}
 use Rattle.tc.specs.Layout.{fields_of, application_of}
-use Rattle.tm.specs.Frame.{Report, counts_after}
 use Rattle.addressing.specs.Requested.{asked_by}
 use Rattle.decide.specs.Table.{task_of}
 use Rattle.serving.specs.Services.{FormedFor}
 use Rattle.decide.proofs.Decided.{heard_facts, accepted_facts, formed_for}
-use Rattle.terminal.specs.declared.Outcome.{Outcome}
-use Rattle.laying.specs.declared.Sender.{Sender}
-use Rattle.laying.specs.declared.Progress.{Progress}
 use Rattle.laying.specs.Reports.{failed}
-use Rattle.terminal.specs.Outcome.{Input, done_by, reports_for, verdict_on, reports_on, reports_due, store_after, frames_due, outcome_of, out_after, store_on, Answered}
-use Rattle.laying.specs.Lays.{octets_for}
-use Rattle.terminal.specs.Act.{Did}
+use Rattle.terminal.specs.Outcome.{Input, done_by, reports_for, verdict_on, reports_on, reports_due, store_after, store_on}
 
 module _ (i : Input) where
   -- What is due by the kind of the verdict.

@@ -2,23 +2,19 @@
 -- Assumes nothing.
 use mathlib.Core.Path.{◌≡◌, refl, sym, ap, ◌∙◌}
 use mathlib.Core.Bool.{true}
-use mathlib.Core.Logic.{◌⊎◌}
-use mathlib.Core.List.{List, [], ◌∷◌, Memᴰ}
-use Prim.Native.Nat.{ℕ, ◌+◌, ◌*◌, ◌≤◌, ◌<◌}
+use mathlib.Core.List.{List, Memᴰ}
+use Prim.Native.Nat.{ℕ, ◌*◌}
 use native.Mathlib.Omega.{arith}
 use lib.ListN.{length, get_or}
-use Rattle.laws.specs.Each.{Each}
 use Rattle.laws.proofs.Each.{each_so, each_both}
 use Rattle.laws.proofs.First.{none_each}
 use Rattle.laws.proofs.Tests.{by-test}
-use Rattle.octets.specs.Copy.{laid}
-use Rattle.octets.proofs.Laid.{laid-length, laid_elsewhere}
 use Rattle.checks.specs.Table.{AllHold}
 use Rattle.checks.specs.Verdict.{is_accepted}
 use Rattle.tc.specs.Layout.{fields_of, application_of}
 use Rattle.map.specs.declared.Area.{Area}
 use Rattle.map.specs.declared.Profile.{Profile}
-use Rattle.map.specs.Place.{word_octets, used, inside, octet_at, octets_of, Off}
+use Rattle.map.specs.Place.{word_octets, used, inside, octets_of, Off}
 use Rattle.map.proofs.Finding.{found_member}
 use Rattle.map.proofs.Octets.{octets_words, off_block}
 use Rattle.blocks.specs.declared.Block.{Block}

@@ -1,4 +1,6 @@
 // The terminal of document 01: one telecommand packet in; verdict, frames, counts and store out.
+#![tactic(auto)]
+
 ghost use Rattle.std.specs.Prelude.{◌≡◌};
 ghost use Rattle.terminal.specs.Outcome.{input, Answered};
 
