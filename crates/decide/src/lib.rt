@@ -21,6 +21,7 @@ pub struct State {
 const OUT_LEAST: usize = 4096;
 
 // The decision on a packet: 40, 41, and then the checks on the packet itself.
+#[tactic(auto, using(crate::proofs::Checked::at_buffer, crate::proofs::Checked::at_caller, crate::proofs::Checked::at_packet))]
 pub fn decide(profile: Profile, state: State, store: usize, out: usize, packet: &[u8]) -> Decision
     ensures { result ≡ decision_of profile state store out packet.now }
 {
@@ -34,6 +35,7 @@ pub fn decide(profile: Profile, state: State, store: usize, out: usize, packet: 
 }
 
 // The decision by the checks on the packet itself: the reader's, and then those of what the packet asks for.
+#[tactic(auto, using(crate::proofs::Checked::at_reader, crate::proofs::Checked::at_request))]
 pub fn decide_packet(profile: Profile, packet: &[u8]) -> Decision
     ensures { result ≡ packet_decision profile packet.now }
 {
@@ -46,6 +48,7 @@ pub fn decide_packet(profile: Profile, packet: &[u8]) -> Decision
 }
 
 // Check 41: what the caller hands in besides the output buffer.
+#[tactic(auto, unfolding(crate::specs::Table::caller_right))]
 fn caller_right(profile: Profile, state: State, store: usize) -> bool
     ensures { result ≡ caller_right profile state store }
 {

@@ -15,6 +15,7 @@ const TYPE: u8 = 7;
 const DATA: u8 = tc::HEAD as u8;
 
 // The octets that the check looks at which refused a packet.
+#[tactic(auto, unfolding(crate::specs::Octets::octets_of))]
 pub fn octets_of(packet: &[u8], refusal: Refusal) -> Span
     ensures { result ≡ octets_of packet.now refusal }
 {

@@ -1,4 +1,6 @@
 // Why a packet is refused: the first check that fails, and where in the packet it looks.
+#![tactic(auto)]
+
 ghost use Rattle.std.specs.Prelude.{◌≡◌, ◌-◌};
 ghost use Rattle.explaining.specs.Explanation.{reason_for, explanation_of};
 

@@ -1,5 +1,5 @@
 -- `serving::judge_area` meets its contract: 18 and 19 in turn.
-use Rattle.std.proofs.Common.{◌≡◌, ℕ, sym, ap, ◌∙◌}
+use Rattle.std.proofs.Common.{◌≡◌, ℕ, sym, ap, ◌∙◌, arith}
 use Rattle.blocks.specs.Blocks.{blocks_of}
 use Rattle.checks.specs.declared.Check.TheVariants.{Right}
 use Rattle.requests.specs.Request.{carried_by, outside_of}
@@ -28,7 +28,8 @@ returns c =
     let s = c.args in
     let number : c.first_outside-outside.result ≡ outside_of s.area (blocks_of (carried_by s.action) s.application.now) =
     c.first_outside-outside.ensures ∙ ap (λ (n : ℕ). outside_of s.area (blocks_of n s.application.now)) c.carried_by.ensures in
+    let none : c.first_outside-outside.result ≡ 0 = omega arith in
     c.accepted.ensures
     ∙ sym
     (area_accepts s.action s.ack s.«data» s.application.now s.area (sym c.right_for.ensures ∙ c.if-not-right_for.false)
-    (sym number ∙ c.if-outside-ne0.false))
+    (sym number ∙ none))

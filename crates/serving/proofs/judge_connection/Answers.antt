@@ -1,5 +1,5 @@
 -- `serving::judge_connection` meets its contract.
-use Rattle.std.proofs.Common.{[], sym, ◌∙◌}
+use Rattle.std.proofs.Common.{◌≡◌, [], length, sym, ◌∙◌, arith}
 use borrow.Author.Tests.{eq-eqb, ne_eqb}
 use Rattle.checks.specs.Table.{answer}
 use Rattle.checks.specs.declared.Check.TheVariants.{Form}
@@ -13,4 +13,6 @@ returns-then-application-ne0 c = c.refuse.ensures ∙ sym (refuses _ Form 0 _ []
 
 pub returns : goal.returns
 unfolding connection_rows answer
-returns c = c.accepted.ensures ∙ sym (passes _ Form 0 _ [] (eq-eqb _ _ c.if-application-ne0.false))
+returns c =
+    let none : length c.args.application.now ≡ 0 = omega arith in
+    c.accepted.ensures ∙ sym (passes _ Form 0 _ [] (eq-eqb _ _ none))
