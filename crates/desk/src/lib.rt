@@ -1,4 +1,6 @@
 // What goes from line to line in a program over lines: its desk.
+#![tactic(auto)]
+
 ghost use Rattle.std.specs.Prelude.{◌≡◌, ◌+◌, min, length};
 ghost use Rattle.packline.specs.Record.{goes_on};
 ghost use Rattle.desk.specs.Place.{desk_for, line_draft, with_draft, with_state, with_group, is_halted};

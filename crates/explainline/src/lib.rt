@@ -1,4 +1,6 @@
 // `explain`: a packet a line in hexadecimal, and what is said of each.
+#![tactic(auto)]
+
 ghost use Rattle.saying.specs.Text.{SaysBy};
 ghost use Rattle.explainline.specs.Line.{bad_text, reason_text, explanation_text, explain_says};
 

@@ -1,4 +1,6 @@
 // What a frame says, in octets: the verdict, the fields and the source data.
+#![tactic(auto)]
+
 ghost use Rattle.std.specs.Prelude.{◌≡◌};
 ghost use Rattle.saying.specs.Text.{SaysBy};
 ghost use Rattle.fieldtext.specs.Fields.{code_of, apid_in, fields_text, read_text};

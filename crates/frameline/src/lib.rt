@@ -1,4 +1,6 @@
 // `frames`: a frame a line in hexadecimal, and what each line is answered.
+#![tactic(auto)]
+
 ghost use Rattle.saying.specs.Text.{SaysBy};
 ghost use Rattle.frameline.specs.Line.{frame_says};
 

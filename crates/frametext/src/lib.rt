@@ -1,4 +1,6 @@
 // What a frame says, as a line for people.
+#![tactic(auto)]
+
 ghost use Rattle.saying.specs.Text.{SaysBy};
 ghost use Rattle.frametext.specs.Text.{stamp_text, refused_text, frame_text, bad_text};
 

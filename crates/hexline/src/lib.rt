@@ -1,4 +1,6 @@
 // The line program of document 01: a packet a line in hexadecimal, and what each line is answered.
+#![tactic(auto)]
+
 ghost use Rattle.std.specs.Prelude.{◌++◌, take};
 ghost use Rattle.tm.specs.Frame.{cut};
 ghost use Rattle.saying.specs.Text.{SaysBy};

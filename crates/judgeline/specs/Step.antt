@@ -1,5 +1,5 @@
 -- docs/JUDGE.md: what the judge says to a line of a record outside of a group, and inside of one, and what goes on from it. The line is counted already.
-use Rattle.std.specs.Prelude.{cond, List, [], ◌∷◌, ◌++◌, ℕ, ◌+◌, length}
+use Rattle.std.specs.Prelude.{cond, List, [], ◌∷◌, ◌++◌, ℕ, length}
 use Rattle.characters.specs.Digits.{octets_in}
 use Rattle.packetline.specs.Packet.{is_packet}
 use Rattle.terminal.specs.Outcome.{octets_due}

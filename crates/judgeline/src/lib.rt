@@ -1,4 +1,6 @@
 // A line of a record: outside of a group a packet is answered by the reference, and inside of one a line is set beside the frame due.
+#![tactic(auto)]
+
 ghost use Rattle.std.specs.Prelude.{◌≡◌};
 ghost use Rattle.saying.specs.Text.{SaysBy};
 ghost use Rattle.differing.specs.Differing.{differs_text};

@@ -3,7 +3,7 @@
 use mathlib.Core.Path.{◌≡◌, refl, sym, ap, subst, ◌∙◌}
 use mathlib.Core.Bool.{true, false}
 use mathlib.Core.List.{List, [], ◌∷◌, ◌++◌}
-use Prim.Native.Nat.{ℕ, ◌+◌, ◌<◌}
+use Prim.Native.Nat.{ℕ, ◌+◌}
 use native.Mathlib.Omega.{arith}
 use lib.ListN.{length, get_or, length-append}
 use Rattle.laws.specs.Each.{Each}
@@ -13,9 +13,9 @@ use Rattle.packetline.specs.Packet.{is_packet}
 use Rattle.beside.specs.Beside.{is_time}
 use Rattle.differing.specs.Differing.{differs_text}
 use Rattle.conforming.specs.Groups.{Line, Filled, groups_of}
-use Rattle.conforming.specs.Conforms.{Conforms, packets_in}
+use Rattle.conforming.specs.Conforms.{Conforms}
 use Rattle.conforming.specs.Verdict.{Differs, verdict_of}
-use Rattle.conforming.specs.Alike.{Alike, packets_of}
+use Rattle.conforming.specs.Alike.{Alike}
 use Rattle.conforming.proofs.Changes.{one_record, times_free, packets-counted}
 use Rattle.conforming.proofs.OneLine.{changed_first, changed_differs}
 use Rattle.judging.specs.Output.{told, verdict_text, judge_output}

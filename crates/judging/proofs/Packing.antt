@@ -3,10 +3,9 @@
 use mathlib.Core.Path.{◌≡◌, refl, sym, ap, subst, ◌∙◌}
 use mathlib.Core.Bool.{true, false}
 use mathlib.Core.List.{List, [], ◌∷◌, ◌++◌, map}
-use Prim.Native.Nat.{ℕ, ◌+◌, ◌*◌, ◌%◌, ◌≤◌, ◌<◌}
+use Prim.Native.Nat.{ℕ, ◌+◌, ◌*◌, ◌≤◌, ◌<◌}
 use native.Mathlib.Omega.{arith}
-use lib.ListN.{length, replicate}
-use lib.Dec.{leb}
+use lib.ListN.{length}
 use borrow.Author.Tests.{le-leb}
 use Rattle.laws.specs.Each.{Each}
 use Rattle.laws.specs.Fold.{answers, joined}
@@ -24,11 +23,10 @@ use Rattle.packetline.proofs.Packets.{packet_even, packet_facts}
 use Rattle.packetline.proofs.Lines.{lines_record}
 use Rattle.map.specs.declared.Profile.{Profile}
 use Rattle.terminal.specs.Act.{dump_most}
-use Rattle.terminal.specs.Outcome.{Input, frames_due, store_on}
+use Rattle.terminal.specs.Outcome.{Input, frames_due}
 use Rattle.framing.specs.Framing.{InOctets}
 use Rattle.framing.proofs.Frames.{due_octets, due-short}
 use Rattle.framing.proofs.Storing.{store_octets}
-use Rattle.lineunit.specs.Unit.{line_time}
 use Rattle.hexline.specs.Line.{Station, packet_input, packet_in, packet_after}
 use Rattle.hexline.proofs.Serving.{packet_in_lem, after_store}
 use Rattle.packline.specs.Record.{record_of}
@@ -36,11 +34,10 @@ use Rattle.packline.proofs.Records.{record_packet}
 use Rattle.beside.specs.Beside.{agrees}
 use Rattle.beside.proofs.Agreeing.{octets_agree}
 use Rattle.conforming.specs.Groups.{Line, Group, Filled, groups_of}
-use Rattle.conforming.specs.Conforms.{frames_for, after_tc, Gives, GiveAll, GroupsConform, Conforms, packets_in}
+use Rattle.conforming.specs.Conforms.{Gives, GiveAll, GroupsConform, Conforms, packets_in}
 use Rattle.conforming.proofs.Giving.{agrees_gives}
 use Rattle.conforming.proofs.Passing.{Long, frames-long}
 use Rattle.conforming.proofs.Standing.{groups_ended}
-use Rattle.desk.specs.declared.Desk.{Desk}
 use Rattle.desk.specs.Place.{Place, profile_at, station_at, counting, is_halted}
 use Rattle.packstep.specs.Step.{pack_says, pack_becomes, record_becomes}
 use Rattle.packstep.proofs.Packing.{pack_passes, pack_records}

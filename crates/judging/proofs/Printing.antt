@@ -1,7 +1,7 @@
 -- What `judge` prints is permitted, and nothing else is; its first line is `conforming` just where the record conforms.
 -- Assumes nothing.
 use mathlib.Core.Path.{◌≡◌, refl, sym, ap, subst, ◌∙◌}
-use mathlib.Core.Bool.{Bool, true, false, false≢true, ◌&&◌}
+use mathlib.Core.Bool.{true, false}
 use mathlib.Core.List.{List, [], ◌∷◌, ◌++◌}
 use Prim.Native.Nat.{ℕ, ◌<◌}
 use native.Mathlib.Omega.{arith}
@@ -18,11 +18,10 @@ use Rattle.conforming.specs.Conforms.{Conforms, packets_in, frames_in}
 use Rattle.conforming.specs.Verdict.{Verdict, Conforming, Differs, Refused70, Refused71, verdict_of}
 use Rattle.conforming.specs.Permitted.{Permitted, conforms, differing, refused_70, refused_71}
 use Rattle.conforming.proofs.Verdicts.{verdict_permitted, permitted_verdict, conforms_conforming}
-use Rattle.desk.specs.declared.Desk.{Desk}
 use Rattle.desk.specs.Place.{is_halted}
 use Rattle.feeding.specs.Output.{unit_of, unit_behind, pack_first}
 use Rattle.judging.specs.Output.{verdict_text, judged_under, judge_output}
-use Rattle.judging.specs.Printed.{unit_profile, unit_station, is_fit, Printed, bad_file, refused_41, judged, ConformsUnder, conforming_line, SaysConforming}
+use Rattle.judging.specs.Printed.{unit_profile, unit_station, is_fit, Printed, bad_file, refused_41, judged, ConformsUnder, SaysConforming}
 use Rattle.judging.proofs.Whole.{judge_verdict}
 
 module _ (file text : List ℕ) where

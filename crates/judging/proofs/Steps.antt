@@ -3,12 +3,11 @@
 use mathlib.Core.Path.{◌≡◌, refl, sym, ap, ap₂, ◌∙◌}
 use mathlib.Core.Bool.{true, false, false≢true}
 use mathlib.Core.List.{List, [], ◌∷◌, ◌++◌}
-use Prim.Native.Nat.{ℕ, zero, suc, ◌+◌, ◌%◌, ◌^◌, ◌≤◌, ◌<◌}
+use Prim.Native.Nat.{ℕ, zero, suc, ◌+◌, ◌≤◌, ◌<◌}
 use native.Mathlib.Omega.{arith}
-use lib.ListN.{length, take, drop, length-take}
-use lib.Dec.{leb, ltb, eqb}
-use borrow.Author.Tests.{le-leb, lt-leb, lt-ltb, ne_eqb}
-use Rattle.laws.proofs.Tests.{by-test}
+use lib.ListN.{length, take}
+use lib.Dec.{ltb}
+use borrow.Author.Tests.{le-leb, lt-leb, lt-ltb}
 use Rattle.laws.proofs.Order.{by_order}
 use Rattle.characters.specs.Digits.{octets_in}
 use Rattle.lines.specs.Feed.{line_says, line_becomes}
@@ -26,17 +25,16 @@ use Rattle.packline.proofs.Halts.{halts}
 use Rattle.telling.specs.Telling.{halt_line}
 use Rattle.beside.specs.Beside.{agrees}
 use Rattle.differing.specs.Differing.{differs_text}
-use Rattle.conforming.specs.Groups.{Line}
 use Rattle.conforming.specs.Conforms.{frames_for, after_tc}
-use Rattle.conforming.specs.Findings.{Finding, blank, packet, frame, bad, differs, first_of, rest_of, finding_of, finding_tc}
+use Rattle.conforming.specs.Findings.{first_of, rest_of}
 use Rattle.conforming.specs.Verdict.{Differs, Refused70, concluded}
 use Rattle.conforming.proofs.Giving.{empty_packet, more_parts}
 use Rattle.grouping.specs.declared.Group.{Group}
-use Rattle.grouping.specs.Group.{next_number, frame_room, left_at, due_at, compared, closed, opened}
+use Rattle.grouping.specs.Group.{next_number, frame_room, left_at, due_at, compared}
 use Rattle.grouping.proofs.Left.{due-first, due-none}
 use Rattle.desk.specs.declared.Desk.{Desk}
-use Rattle.desk.specs.Place.{Place, profile_at, station_at, with_group, counted, halting, is_halted, at_desk, counting}
-use Rattle.judgeline.specs.Step.{halt_differs, served_at, agreed_desk}
+use Rattle.desk.specs.Place.{Place, profile_at, station_at, counted, is_halted, at_desk, counting}
+use Rattle.judgeline.specs.Step.{served_at, agreed_desk}
 use Rattle.concluding.specs.Closing.{conforming_text, closing_says}
 use Rattle.judgestep.specs.Step.{judge_says, judge_becomes}
 use Rattle.judgeline.proofs.Lines.{outside_empty, outside_packet, outside_bad, inside_bad, inside-agrees, inside_differs}

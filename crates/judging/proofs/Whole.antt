@@ -1,17 +1,16 @@
 -- What the judge says of a whole record is the verdict on it, and however the record is divided, so is what is said of its parts.
 -- Assumes nothing.
 use mathlib.Core.Path.{◌≡◌, refl, sym, ap, ap₂, ◌∙◌}
-use mathlib.Core.Bool.{true, false}
+use mathlib.Core.Bool.{true}
 use mathlib.Core.List.{List, [], ◌∷◌, ◌++◌, append_assoc, append-nil}
 use Prim.Native.Nat.{ℕ, ◌+◌, ◌≤◌, ◌<◌}
 use lib.ListN.{length, replicate}
 use Rattle.laws.specs.Fold.{answers, reached, joined}
 use Rattle.laws.proofs.Tests.{by-test}
-use Rattle.laws.proofs.Order.{by_order}
 use Rattle.characters.specs.Digits.{octets_in}
 use Rattle.lines.specs.Lines.{lines_of}
 use Rattle.lines.specs.Turn.{Turn, last_says, last_becomes, turns_of}
-use Rattle.lines.specs.Feed.{line_becomes, output_of}
+use Rattle.lines.specs.Feed.{output_of}
 use Rattle.packetline.specs.Packet.{is_packet}
 use Rattle.map.specs.declared.Profile.{Profile}
 use Rattle.hexline.specs.Line.{Station}
@@ -26,10 +25,9 @@ use Rattle.conforming.proofs.LineByLine as reading
 use Rattle.desk.specs.declared.Desk.{Desk}
 use Rattle.desk.specs.Place.{Place, profile_at, station_at, is_halted, desk_for}
 use Rattle.concluding.specs.Closing.{closing_says}
-use Rattle.judgestep.specs.Step.{judge_becomes, end_says}
+use Rattle.judgestep.specs.Step.{end_says}
 use Rattle.concluding.proofs.Closing.{closing_halted}
 use Rattle.tasks.specs.declared.Task.TheVariants.{Judge}
-use Rattle.tasks.specs.Tasks.{task_program}
 use Rattle.feeding.specs.Feed.{piece_program}
 use Rattle.feeding.proofs.Streaming.{stream_whole, stream_behind}
 use Rattle.judging.specs.Output.{verdict_text, judged_by}

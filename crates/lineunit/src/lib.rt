@@ -1,4 +1,6 @@
 // The unit of the line program of document 01: its profile.
+#![tactic(auto)]
+
 ghost use Rattle.std.specs.Prelude.{◌≡◌};
 ghost use Rattle.lineunit.specs.Unit.{line_profile};
 

@@ -1,4 +1,6 @@
 // The items of a unit file that stand once: `pid`, `services` and `store`.
+#![tactic(auto)]
+
 ghost use Rattle.std.specs.Prelude.{◌≡◌};
 ghost use Rattle.stating.specs.Stating.{words_behind, number_value};
 ghost use Rattle.once.specs.Once.{sole_at, pid_fault, services_fault, services_named, store_fault};

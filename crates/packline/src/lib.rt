@@ -1,4 +1,6 @@
 // `pack`: the record of a packet line, and why a line is refused by 70.
+#![tactic(auto)]
+
 ghost use Rattle.std.specs.Prelude.{◌≡◌, [], ◌∷◌, ◌++◌, take};
 ghost use Rattle.tm.specs.Frame.{cut};
 ghost use Rattle.lines.specs.Lines.{newline};

@@ -1,4 +1,6 @@
 // `pack`, line by line: an empty line is passed over, a packet line is given its record, and any other stops the program.
+#![tactic(auto)]
+
 ghost use Rattle.std.specs.Prelude.{◌≡◌};
 ghost use Rattle.saying.specs.Text.{SaysBy};
 ghost use Rattle.packline.specs.Record.{refused_at};

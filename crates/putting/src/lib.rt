@@ -1,4 +1,6 @@
 // Octets that a line of a unit file puts into the store.
+#![tactic(auto)]
+
 ghost use Rattle.std.specs.Prelude.{◌≡◌, ◌+◌, leb};
 ghost use Rattle.stating.specs.Stating.{words_behind};
 ghost use Rattle.putting.specs.Putting.{octets_fault, put_at, put_fault, put_into};

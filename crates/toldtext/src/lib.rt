@@ -64,6 +64,7 @@ fn put_entry(e: Entry, text: &mut [u8], at: usize) -> usize
 }
 
 // Adds what is said of so many blocks.
+#[tactic(auto, using(crate::proofs::Entries::no_entries, octets::proofs::Laid::laid_none))]
 fn put_entries(blocks: u8, entries: &[u8], text: &mut [u8], at: usize) -> usize
     ensures { SaysBy (entries_text (entries_in blocks entries.now)) at text result }
 {

@@ -1,4 +1,6 @@
 // What a line of a unit file states: an item by its first word.
+#![tactic(auto)]
+
 ghost use Rattle.std.specs.Prelude.{◌≡◌, false, ◌∷◌, ◌<◌};
 ghost use Rattle.words.specs.Ascii.{ascii};
 ghost use Rattle.words.specs.Words.{same_text};

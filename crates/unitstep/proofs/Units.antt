@@ -8,7 +8,6 @@ use borrow.Author.Tests.{ne_eqb}
 use Rattle.laws.proofs.Tests.{by-test}
 use Rattle.octets.specs.Numbers.{Octets}
 use Rattle.stating.specs.Faults.{fine, line_long}
-use Rattle.unit.specs.declared.Draft.{Draft}
 use Rattle.unit.specs.declared.Stated.{Stated}
 use Rattle.unitline.specs.Line.{line_stated, line_put}
 use Rattle.unit.specs.Unit.{end_fault}

@@ -1,4 +1,6 @@
 // The reader of unit files, line by line: what a line does at a desk, and what the end of the file does.
+#![tactic(auto)]
+
 ghost use Rattle.std.specs.Prelude.{◌≡◌};
 ghost use Rattle.unitstep.specs.Step.{faulty as Faulty};
 ghost use Rattle.unitstep.specs.Step.{unit_desk, unit_store, unit_long_desk, unit_end};
@@ -44,6 +46,7 @@ pub fn unit_long(d: Desk) -> Desk
 }
 
 // The end of a unit file: something may be missing.
+#[tactic(auto, unfolding(crate::specs::Step::unit_end))]
 pub fn unit_end(d: Desk) -> Desk
     ensures { result ≡ unit_end d }
 {
