@@ -1,4 +1,6 @@
 // The writer: a packet of category 12 and pad 0, with error control by the method asked for, laid at the front of a buffer.
+#![tactic(auto)]
+
 ghost use Rattle.std.specs.Prelude.{◌≡◌, ◌+◌, ◌≤◌, length, take};
 ghost use Rattle.octets.specs.Copy.{laid};
 ghost use Rattle.tc.specs.Layout.{around, data_most, head_size, head_of, body_of, packet_of};
@@ -46,6 +48,7 @@ pub enum Written {
 }
 
 // Writes a packet at the front of a buffer; a refused write touches nothing.
+#[tactic(auto, using(crate::proofs::Ordered::packet_checks), unfolding(crate::specs::Writer::buffer_after))]
 pub fn write(order: Order, application: &[u8], buffer: &mut [u8]) -> Written
     ensures { Writes order application.now buffer.old result buffer.new }
 {
@@ -93,6 +96,7 @@ fn wrote(answer: Written) -> bool
 }
 
 // The writer's answer: 50, 51, 52 in that order, or the packet's length.
+#[tactic(auto, unfolding(crate::specs::Writer::written_of, crate::specs::Writer::writer_rows, checks::specs::Table::answer))]
 fn judge(order: Order, octets: usize, room: usize) -> Written
     ensures { result ≡ written_of order octets room }
 {

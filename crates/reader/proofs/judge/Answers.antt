@@ -1,7 +1,7 @@
 -- `reader::judge` meets its contract: at each `return` the checks that led there say which row of the table is the first to fail.
-use Rattle.std.proofs.Common.{◌≡◌, ◌∙◌, ℕ, ◌-◌, true, false, List, length, ap, sym, eq-eqb, ne_eqb, arith}
+use Rattle.std.proofs.Common.{◌≡◌, ◌∙◌, ℕ, ◌-◌, true, false, List, length, ap, sym, eq-eqb, ne_eqb}
 use Rattle.reader.proofs.Judged.{judged-short, judged-length, judged_control, judged-header, judged-accepted}
-use Rattle.heading.specs.Heading.{length_right, header_fault}
+use Rattle.heading.specs.Heading.{header_fault}
 use Rattle.reader.specs.Reader.{control_right}
 use Rattle.checks.specs.declared.Check.TheVariants.{Length, Control, Header}
 use Rattle.checks.specs.declared.Verdict.TheVariants.{Refused}
