@@ -1,4 +1,6 @@
 // The words for a clause of soundness that fails.
+#![tactic(auto)]
+
 ghost use Rattle.saying.specs.Text.{SaysBy};
 ghost use Rattle.telling.specs.Rows.{row_of};
 ghost use Rattle.clausewords.specs.Clausewords.{of_area, of_areas, clause_words, clause_line};

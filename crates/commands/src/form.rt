@@ -28,6 +28,7 @@ const FLAGS_MOST: u16 = 15;
 const RIGHTS_MOST: u16 = 7;
 
 // Whether a line is a letter alone, or a letter, a space and the digits of whole octets, at most 70,000 of them.
+#[tactic(auto, unfolding(crate::specs::Form::is_line))]
 pub fn is_line(line: &[u8]) -> bool
     ensures { result ≡ is_line line.now }
 {
@@ -61,6 +62,7 @@ pub fn digits(line: &[u8]) -> &[u8]
 }
 
 // The letter of a line that is given those octets, where it is a command that stands alone, or one that takes them; 0 for any other line, which is bad.
+#[tactic(auto, unfolding(crate::specs::Form::command_of))]
 pub fn asked(line: &[u8], given: &[u8]) -> u8
     ensures { result ≡ command_of line.now given.now }
 {
@@ -84,6 +86,7 @@ fn stands_alone(letter: u8) -> bool
 }
 
 // Whether a letter is a command that takes octets, and takes these.
+#[tactic(auto, unfolding(crate::specs::Form::takes))]
 fn takes(letter: u8, given: &[u8]) -> bool
     ensures { result ≡ takes letter given.now }
 {
@@ -106,6 +109,7 @@ fn takes(letter: u8, given: &[u8]) -> bool
 }
 
 // PID, flags, area count, and at most 8 whole areas, with no flag and no right that there is not.
+#[tactic(auto, unfolding(crate::specs::Form::is_profile))]
 fn is_profile(given: &[u8]) -> bool
     ensures { result ≡ is_profile given.now }
 {
@@ -126,6 +130,7 @@ fn is_profile(given: &[u8]) -> bool
 }
 
 // Whether the rights of each area are among the three that there are; octets past the end count as 0.
+#[tactic(auto, using(crate::proofs::Forms::rights_next))]
 fn rights_known(given: &[u8]) -> bool
     ensures { result ≡ rights_known 8 given.now }
 {
@@ -140,6 +145,7 @@ fn rights_known(given: &[u8]) -> bool
 }
 
 // A length of at most 8,192, and an octet.
+#[tactic(auto, unfolding(crate::specs::Form::is_buffer))]
 fn is_buffer(given: &[u8]) -> bool
     ensures { result ≡ is_buffer given.now }
 {
@@ -150,6 +156,7 @@ fn is_buffer(given: &[u8]) -> bool
 }
 
 // An order to the writer, and a checksum flag of 0 or 1.
+#[tactic(auto, unfolding(crate::specs::Form::is_order))]
 fn is_order(given: &[u8]) -> bool
     ensures { result ≡ is_order given.now }
 {

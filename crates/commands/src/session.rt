@@ -79,6 +79,7 @@ pub fn set_profile(s: Session, given: &[u8]) -> Session
 }
 
 // PID, flags, area count, areas.
+#[tactic(auto, unfolding(crate::specs::Session::profile_in))]
 pub fn profile_in(given: &[u8]) -> Profile
     ensures { result ≡ profile_in given.now }
 {
@@ -106,6 +107,7 @@ pub fn profile_in(given: &[u8]) -> Profile
 }
 
 // An area of a profile: ID, start, length, first word, rights; octets past the end count as 0, so that an area that is not given is all zero.
+#[tactic(auto, unfolding(crate::specs::Session::area_from))]
 fn area_at(given: &[u8], index: usize) -> Area
     requires { index < 8 }
     ensures { result ≡ area_at given.now index }

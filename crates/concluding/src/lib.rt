@@ -1,4 +1,6 @@
 // The last verdict on a record, behind its last line.
+#![tactic(auto)]
+
 ghost use Rattle.std.specs.Prelude.{◌≡◌};
 ghost use Rattle.saying.specs.Text.{SaysBy};
 ghost use Rattle.concluding.specs.Closing.{conforming_text, closing_says, closing_desk};

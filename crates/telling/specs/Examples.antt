@@ -1,5 +1,5 @@
 -- Rows of a table, and whole lines, by computation.
-use Rattle.std.specs.Prelude.{◌≡◌, refl, List, []}
+use Rattle.std.specs.Prelude.{◌≡◌, refl, []}
 use Rattle.characters.specs.Digits.{digit_of, text_of}
 use Rattle.words.specs.Ascii.{ascii}
 use Rattle.numerals.specs.Numbers.{decimal_from, decimal_of}

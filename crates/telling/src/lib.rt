@@ -1,4 +1,6 @@
 // The words for what is wrong with a unit file, for a line that is refused by 70, and for a unit that is not sound.
+#![tactic(auto)]
+
 ghost use Rattle.std.specs.Prelude.{[], ◌∷◌, ◌++◌};
 ghost use Rattle.characters.specs.Digits.{text_of};
 ghost use Rattle.words.specs.Ascii.{ascii};

@@ -1,0 +1,10 @@
+-- `telling::unit_line` meets its contract: the number of the line, what is wrong with it, and the end of the line, one behind the other.
+use Rattle.saying.proofs.Saying.{says_append}
+use Rattle.telling.specs.Telling.{unit_line}
+use Rattle.telling.proofs.unit_line.Goals as goal
+
+pub returns : goal.returns
+unfolding unit_line
+returns c =
+    says_append c.text-first.ensures
+    (says_append c.decimal-digits.ensures (says_append c.text-colon.ensures (says_append c.fault_words-words.ensures c.end.ensures)))
