@@ -1,4 +1,6 @@
 // What each command of `cases` does and prints.
+#![tactic(auto)]
+
 ghost use Rattle.std.specs.Prelude.{◌≡◌};
 ghost use Rattle.octets.specs.Copy.{laid};
 ghost use Rattle.commands.specs.Form.{given_in, command_in};
@@ -40,6 +42,7 @@ pub fn refuse(text: &mut [u8], at: usize) -> usize
 }
 
 // Each command, given the octets that it takes; any other letter is that of a bad line.
+#[tactic(auto, unfolding(crate::specs::Does::does))]
 fn act(
     letter: u8,
     s: Session,

@@ -1,4 +1,6 @@
 // The commands that print what the terminal, the reader, the writer, the CRC or the profiles answer.
+#![tactic(auto)]
+
 ghost use Rattle.std.specs.Prelude.{◌≡◌, min};
 ghost use Rattle.saying.specs.Text.{SaysBy};
 ghost use Rattle.writer.specs.Writer.{Writes};
