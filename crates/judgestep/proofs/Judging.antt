@@ -3,7 +3,7 @@
 use mathlib.Core.Path.{◌≡◌, refl, sym, ap, ap₂, ◌∙◌}
 use mathlib.Core.Bool.{true, false}
 use mathlib.Core.List.{List, []}
-use Prim.Native.Nat.{ℕ, ◌+◌, ◌-◌, min}
+use Prim.Native.Nat.{ℕ, ◌+◌, min}
 use lib.ListN.{length}
 use Rattle.saying.specs.Text.{Says}
 use Rattle.saying.proofs.Saying.{says_none, says_as, says_append}
@@ -76,6 +76,28 @@ pub judge_passes : (m : Place) (line : List ℕ) {at : ℕ} {text : List ℕ} (r
 judge_passes m line r d going outer empty f p q =
     judge_outside m line r (counted m.desk) going outer refl
     (did_as (outside_empty (counting m) line empty) (record { says = says_none p; desk_is = q ∙ f; store_is = refl; out_is = refl }))
+
+-- Nothing is said: and so any text stays as it is.
+abbrev Silent : List ℕ → Type 0
+Silent said = (said ≡ []) × ((text : List ℕ) (at : ℕ) → Says said at text (min at (length text + 1)) text)
+
+silent : (said : List ℕ) → said ≡ [] → Silent said
+silent said e = (e, λ text at. says_as (sym e) (says_none refl))
+
+-- What is said, and what goes on, where a line is passed over: inside of a group one that agrees, and outside of one an empty line.
+module _ (m : Place) (line : List ℕ) (going : is_halted m.desk ≡ false) where
+  pub agrees_says : m.desk.group.«open» ≡ true → found_by m.desk.group m.out line ≡ Agrees → Silent (judge_says m line)
+  agrees_says o a = silent (judge_says m line) ((cond-inside m line going o).0 ∙ sym (inside_found (counted m.desk) m.out line Agrees (sym a)).0)
+
+  pub agrees_becomes : m.desk.group.«open» ≡ true → found_by m.desk.group m.out line ≡ Agrees
+      → judge_becomes m line ≡ at_desk m (with_group (counted m.desk) (behind_line m.desk.group m.out line))
+  agrees_becomes o a = (cond-inside m line going o).1 ∙ ap (at_desk m) (sym (inside_found (counted m.desk) m.out line Agrees (sym a)).1)
+
+  pub passes_says : m.desk.group.«open» ≡ false → length line ≡ 0 → Silent (judge_says m line)
+  passes_says o e = silent (judge_says m line) ((cond_outside m line going o).0 ∙ (outside_empty (counting m) line e).0)
+
+  pub passes_becomes : m.desk.group.«open» ≡ false → length line ≡ 0 → judge_becomes m line ≡ counting m
+  passes_becomes o e = (cond_outside m line going o).1 ∙ (outside_empty (counting m) line e).1
 
 -- A line that is too long.
 pub judge_long_halted : (d : Desk) {at : ℕ} {text : List ℕ} (r : Done) → is_halted d ≡ true → r.at ≡ min at (length text + 1) → r.desk ≡ d

@@ -1,5 +1,5 @@
 -- docs/JUDGE.md: what the judge says to a line of a record, and what goes on from it.
-use Rattle.std.specs.Prelude.{cond, List, [], ◌++◌, ℕ, ◌+◌}
+use Rattle.std.specs.Prelude.{cond, List, [], ◌++◌, ℕ}
 use Rattle.packline.specs.Record.{halt_long}
 use Rattle.grouping.specs.Group.{next_number}
 use Rattle.desk.specs.declared.Desk.{Desk}

@@ -1,4 +1,6 @@
 // The judge, line by line, and at the end of its input.
+#![tactic(auto)]
+
 ghost use Rattle.std.specs.Prelude.{◌≡◌, []};
 ghost use Rattle.saying.specs.Text.{SaysBy};
 ghost use Rattle.desk.specs.Did.{DidBy};
@@ -9,6 +11,7 @@ use judgeline::Found;
 use packline::LONG;
 
 // The judge's answer to a line.
+#[tactic(auto, using(crate::proofs::Judging::agrees_says, crate::proofs::Judging::agrees_becomes, crate::proofs::Judging::passes_says, crate::proofs::Judging::passes_becomes))]
 pub fn judge_answer(
     d: Desk,
     line: &[u8],

@@ -1,4 +1,6 @@
 // What the programs over lines do with a line: the line program, the reader of unit files, `pack`, `judge`, `frames` and `explain`.
+#![tactic(auto)]
+
 ghost use Rattle.std.specs.Prelude.{◌≡◌};
 ghost use Rattle.saying.specs.Text.{SaysBy};
 ghost use Rattle.desk.specs.Did.{DidBy};
