@@ -1,4 +1,6 @@
 // A program over lines that is fed its input in parts: whole pieces of lines are answered, and what is left is carried at the front of the input's buffer.
+#![tactic(auto)]
+
 ghost use Rattle.std.specs.Prelude.{◌≡◌};
 ghost use Rattle.lines.specs.Pieces.{piece as piece_of};
 ghost use Rattle.lines.specs.Feed.{WalkedBy, FedBy, FinishedBy};
@@ -38,6 +40,7 @@ pub fn start(desk: Desk) -> Progress
 }
 
 // Answers a piece of a line into a text from a place on: a line that is one piece, or one that is too long, at its end.
+#[tactic(auto, using(octets::proofs::Laid::laid_none))]
 fn answer_piece(
     task: Task,
     desk: Desk,
