@@ -8,39 +8,55 @@ ghost use Rattle.addressing.specs.Requested.{request_decision, service_decision}
 use checks::Check;
 use map::Profile;
 use octets::copy::Span;
-use requests::{Asked, Request};
-use serving::{Decision, Task};
+use requests::Request;
+use serving::{Decision, Task, Work};
 use tc::Fields;
 
 // Checks 0, 3 and 4, and then those of the service asked.
+#[tactic(auto, unfolding(crate::specs::Requested::request_rows, checks::specs::Table::answer))]
 pub fn judge_request(profile: Profile, fields: Fields, data: Span, packet: &[u8]) -> Decision
     ensures { result ≡ request_decision profile fields «data» (placed «data» packet.now) }
 {
     let addressed = fields::join_apid(profile.pid as u16, tc::CATEGORY);
     if fields.apid != addressed {
-        return serving::refuse(Check::Apid, fields.apid);
+        return checks::refuse(Check::Apid, fields.apid);
     }
     if !requests::is_served(profile.flags, fields.kind) {
-        return serving::refuse(Check::Service, fields.kind as u16);
+        return checks::refuse(Check::Service, fields.kind as u16);
     }
     let asked = requests::asked_for(fields.kind, fields.subtype);
     if !requests::is_offered(profile.flags, asked) {
-        return serving::refuse(Check::Subtype, pair(fields.kind, fields.subtype));
+        return checks::refuse(Check::Subtype, pair(fields.kind, fields.subtype));
     }
     judge_service(profile, asked, fields.ack, data, packet)
 }
 
 // The checks of the service asked.
-fn judge_service(profile: Profile, asked: Asked, ack: u8, data: Span, packet: &[u8]) -> Decision
+#[tactic(auto, unfolding(checks::specs::Table::answer))]
+fn judge_service(
+    profile: Profile,
+    asked: Option<Request>,
+    ack: u8,
+    data: Span,
+    packet: &[u8],
+) -> Decision
     ensures { result ≡ service_decision profile asked ack «data» (placed «data» packet.now) }
 {
     let application = octets::copy::placed(packet, data);
-    let Asked::Known(request) = asked else {
-        return serving::accepted(Task::Idle, ack, data);
-    };
-    match request {
-        Request::Memory(action) => serving::judge_memory(profile, action, ack, data, application),
-        Request::Connection => serving::judge_connection(ack, data, application),
+    match asked {
+        Some(Request::Memory(action)) => serving::judge_memory(
+            profile,
+            action,
+            ack,
+            data,
+            application,
+        ),
+        Some(Request::Connection) => serving::judge_connection(ack, data, application),
+        None => Ok(Work {
+            task: Task::Idle,
+            ack,
+            data,
+        }),
     }
 }
 

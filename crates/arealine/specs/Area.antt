@@ -1,22 +1,15 @@
 -- docs/UNITS.md, "Items": the area that words state, `ID start N words N at N [size N] [RIGHT ..]`, or what is wrong with them.
-use Rattle.std.specs.Prelude.{Bool, cond, List, ℕ, zero, suc, ◌/◌, ◌%◌, drop, eqb}
+use Rattle.std.specs.Prelude.{Bool, true, false, cond, Result, Ok, Err, List, [], ◌∷◌, ℕ, ◌/◌, ◌%◌, drop, eqb}
 use Rattle.map.specs.declared.Flags.{Flags}
 use Rattle.map.specs.declared.Rights.{Rights}
 use Rattle.map.specs.declared.Area.{Area}
-use Rattle.map.specs.Made.{blank}
+use Rattle.map.specs.Made.{no_rights, area_with}
 use Rattle.words.specs.Ascii.{ascii}
 use Rattle.words.specs.Words.{same_text}
 use Rattle.numerals.specs.Numbers.{number_most}
-use Rattle.stating.specs.declared.Valued.{Valued}
-use Rattle.stating.specs.declared.Named.{Named}
-use Rattle.stating.specs.Faults.{fine, area_form, area_id, area_odd, area_size, right_twice, number_large}
-use Rattle.stating.specs.Stating.{head_of, tail_of, words_behind, behind_word, number_fault, number_value, no_flags, flags_from}
-use Rattle.arealine.specs.declared.Numbers.{Numbers}
-use Rattle.arealine.specs.declared.Stated.{Stated}
-
--- The first of two faults.
-abbrev pub first_fault : ℕ → ℕ → ℕ
-first_fault first later = cond (eqb first fine) later first
+use Rattle.stating.specs.declared.fault.Fault.{Fault}
+use Rattle.stating.specs.declared.fault.Fault.TheVariants.{AreaForm, AreaId, AreaOdd, AreaSize, RightTwice, NumberLarge}
+use Rattle.stating.specs.Stating.{and_then, number_stated, no_flags, flags_from}
 
 -- The largest memory ID, and the one size of a word that there is today.
 abbrev pub id_most : ℕ
@@ -25,98 +18,47 @@ id_most = 255
 abbrev pub word_size : ℕ
 word_size = 2
 
--- What is wrong with a word and the number behind it.
-abbrev pub label_fault : List ℕ → List (List ℕ) → ℕ
-label_fault label ws = cond (same_text (head_of ws) label) (number_fault number_most area_form number_large (tail_of ws)) area_form
+-- Whether a text is the first of some words.
+abbrev pub is_next : List ℕ → List (List ℕ) → Bool
+is_next text [] = false
+is_next text (w ∷ ws) = same_text w text
 
--- A word and the number behind it, at a place of a line.
-abbrev pub labelled_at : List ℕ → ℕ → List ℕ → Valued
-labelled_at line at label = record {
-  value = number_value (tail_of (words_behind line at));
-  fault = label_fault label (words_behind line at);
-  behind = behind_word line (behind_word line at);
-}
+-- A word and the number behind it.
+unfoldable pub labelled : List ℕ → List (List ℕ) → Result ℕ Fault
+labelled label ws = cond (is_next label ws) (number_stated number_most AreaForm NumberLarge (drop 1 ws)) (Err AreaForm)
 
--- What is wrong with `at N`: an area begins at an even octet.
-abbrev pub at_fault : List (List ℕ) → ℕ
-at_fault ws = first_fault (label_fault (ascii "at") ws) (cond (eqb (number_value (tail_of ws) % word_size) 0) fine area_odd)
+-- `at N`: an area begins at an even octet, which a word of the store has as its first.
+unfoldable pub first_word : List (List ℕ) → Result ℕ Fault
+first_word ws = and_then (labelled (ascii "at") ws) (λ n. cond (eqb (n % word_size) 0) (Ok (n / word_size)) (Err AreaOdd))
 
--- Whether `size` stands there, and what is wrong with `size N`, which may be left out.
-abbrev pub is_sized : List (List ℕ) → Bool
-is_sized ws = same_text (head_of ws) (ascii "size")
+-- The words behind `size N`, which may be left out.
+unfoldable pub past_size : List (List ℕ) → Result (List (List ℕ)) Fault
+past_size ws =
+    cond (is_next (ascii "size") ws)
+    (and_then (labelled (ascii "size") ws) (λ n. cond (eqb n word_size) (Ok (drop 2 ws)) (Err AreaSize)))
+    (Ok ws)
 
-abbrev pub size_fault : List (List ℕ) → ℕ
-size_fault ws =
-    cond (is_sized ws)
-    (first_fault (number_fault number_most area_form number_large (tail_of ws)) (cond (eqb (number_value (tail_of ws)) word_size) fine area_size))
-    fine
+-- The flags that are rights, and the rights that words name: load, dump and check.
+abbrev pub right_flags : Flags
+right_flags = record { load = true; dump = true; check = true; connection = false }
 
--- The words behind a size that may be left out.
-abbrev pub unsized : List (List ℕ) → List (List ℕ)
-unsized ws = cond (is_sized ws) (drop 2 ws) ws
+unfoldable pub rights_named : List (List ℕ) → Result Rights Fault
+rights_named ws =
+    and_then (flags_from right_flags AreaForm RightTwice no_flags ws)
+    (λ f. Ok (record { load = f.load; dump = f.dump; check = f.check }))
 
--- The rights that words name: load, dump and check.
-abbrev pub rights_named : List (List ℕ) → Named
-rights_named ws = flags_from 3 area_form right_twice no_flags ws
+-- `ID start N words N at N`: an area without rights.
+unfoldable pub placed : List (List ℕ) → Result Area Fault
+placed ws =
+    and_then (number_stated id_most AreaForm AreaId ws) (λ id.
+    and_then (labelled (ascii "start") (drop 1 ws)) (λ start.
+    and_then (labelled (ascii "words") (drop 3 ws)) (λ length.
+    and_then (first_word (drop 5 ws)) (λ first.
+    Ok (area_with no_rights id start length first)))))
 
-abbrev pub rights_of : Flags → Rights
-rights_of f = record { load = f.load; dump = f.dump; check = f.check }
-
--- What is wrong with the words of an area, the first from the left.
-unfoldable pub area_fault : List (List ℕ) → ℕ
-area_fault ws =
-    first_fault (number_fault id_most area_form area_id ws)
-    (first_fault (label_fault (ascii "start") (drop 1 ws))
-    (first_fault (label_fault (ascii "words") (drop 3 ws))
-    (first_fault (at_fault (drop 5 ws))
-    (first_fault (size_fault (drop 7 ws))
-    (rights_named (unsized (drop 7 ws))).fault))))
-
--- The area that they state.
-unfoldable pub area_in : List (List ℕ) → Area
-area_in ws = record {
-  id = number_value ws;
-  start = number_value (drop 2 ws);
-  length = number_value (drop 4 ws);
-  first = number_value (drop 6 ws) / word_size;
-  rights = rights_of (rights_named (unsized (drop 7 ws))).flags;
-}
-
--- The area, or what is wrong; then the area is blank.
-abbrev pub area_stated : List (List ℕ) → Stated
-area_stated ws = record { area = cond (eqb (area_fault ws) fine) (area_in ws) blank; fault = area_fault ws }
-
--- ---- the parts, as they are read
-
--- The place behind so many words.
-abbrev pub behind_words : ℕ → List ℕ → ℕ → ℕ
-behind_words zero line at = at
-behind_words (suc n) line at = behind_words n line (behind_word line at)
-
--- `ID start N words N at N`: what is wrong, and all of it at a place of a line.
-abbrev pub numbers_fault : List (List ℕ) → ℕ
-numbers_fault ws =
-    first_fault (number_fault id_most area_form area_id ws)
-    (first_fault (label_fault (ascii "start") (drop 1 ws))
-    (first_fault (label_fault (ascii "words") (drop 3 ws))
-    (at_fault (drop 5 ws))))
-
-abbrev pub numbers_at : List ℕ → ℕ → Numbers
-numbers_at line at =
-    let ws : List (List ℕ) = words_behind line at in
-    record {
-      id = number_value ws;
-      start = number_value (drop 2 ws);
-      length = number_value (drop 4 ws);
-      first = number_value (drop 6 ws);
-      fault = numbers_fault ws;
-      behind = behind_words 7 line at;
-    }
-
--- `[size N] [RIGHT ..]`: the rights, and what is wrong.
-abbrev pub rights_behind : List (List ℕ) → Named
-rights_behind ws = record { flags = (rights_named (unsized ws)).flags; fault = first_fault (size_fault ws) (rights_named (unsized ws)).fault }
-
--- The area of numbers and flags.
-abbrev pub area_by : Numbers → Flags → Area
-area_by n f = record { id = n.id; start = n.start; length = n.length; first = n.first / word_size; rights = rights_of f }
+-- The area that words state; the first that is wrong from the left is told.
+unfoldable pub area_stated : List (List ℕ) → Result Area Fault
+area_stated ws =
+    and_then (placed ws) (λ area.
+    and_then (past_size (drop 7 ws)) (λ rest.
+    and_then (rights_named rest) (λ rights. Ok (record area { rights = rights }))))

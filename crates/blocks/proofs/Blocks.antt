@@ -1,29 +1,23 @@
 -- Laws of blocks: the fields of the block at a place, the blocks from a place on, what a right block keeps to, and the words that it carries.
 -- Assumes nothing.
 use mathlib.Core.Path.{◌≡◌, refl, ap, ◌∙◌}
-use mathlib.Core.List.{List}
-use mathlib.Core.Bool.{true, false, ◌&&◌}
-use Prim.Native.Nat.{ℕ, zero, suc, ◌+◌, ◌*◌, min, ◌≤◌}
+use mathlib.Core.List.{List, [], ◌∷◌}
+use mathlib.Core.Bool.{true, ◌&&◌}
+use Prim.Native.Nat.{ℕ, zero, suc, ◌+◌, ◌-◌, ◌*◌, ◌≤◌}
+use native.Mathlib.Numerals.{add-one}
 use native.Mathlib.Omega.{arith}
 use lib.ListN.{length}
 use lib.Dec.{leb}
-use borrow.Author.Tests.{le-leb, leb-true}
+use borrow.Author.Tests.{le-leb, lt-leb, leb-true}
+use Rattle.laws.proofs.Order.{by_order}
 use Rattle.laws.specs.Each.{Each}
-use Rattle.laws.proofs.Tests.{by-test, both}
-use Rattle.octets.specs.Numbers.{word16, word32}
+use Rattle.laws.proofs.Tests.{both}
 use Rattle.octets.proofs.Between.{between-length}
 use Rattle.blocks.specs.declared.Block.{Block}
 use Rattle.blocks.specs.Blocks.{header_size, block_at, blocks_from, words_of}
 use Rattle.blocks.specs.Form.{block_right}
 
 -- ---- the block at a place
-
--- A block put together from its fields.
-pub block_made : (carried : ℕ) (d : List ℕ) (place at start words : ℕ)
-    → at ≡ min place (length d) → start ≡ word32 d at → words ≡ word16 d (at + 4)
-    → record { at = at; start = start; words = words; next = at + header_size + words * carried } ≡ block_at carried d place
-unfolding block_at
-block_made carried d place at start words e f g = cc
 
 pub block_next : (carried : ℕ) (d : List ℕ) (place : ℕ)
     → (block_at carried d place).next ≡ (block_at carried d place).at + header_size + (block_at carried d place).words * carried
@@ -44,7 +38,24 @@ unfolding blocks_from
 blocks_read carried d zero place = tt
 blocks_read carried d (suc n) place = ((place, refl), blocks_read carried d n (block_at carried d place).next)
 
+-- None, and one with the others behind it.
+pub blocks_none : (carried : ℕ) (d : List ℕ) (n place : ℕ) → n ≡ 0 → blocks_from carried d n place ≡ []
+unfolding blocks_from
+blocks_none carried d n place e = rw e refl
+
+pub blocks_step : (carried : ℕ) (d : List ℕ) (n place m : ℕ) (b : Block) → n ≡ m + 1 → b ≡ block_at carried d place
+    → blocks_from carried d n place ≡ b ∷ blocks_from carried d m b.next
+unfolding blocks_from
+blocks_step carried d n place m b e f = rw (e, f, add-one) refl
+
 -- ---- a right block
+
+-- A header has room behind a place.
+pub header_room : (octets place : ℕ) → leb header_size (octets - place) ≡ leb (place + header_size) octets
+header_room octets place =
+    by_order (place + header_size) octets
+    (λ h. simp (le-leb (place + header_size) octets h, le-leb header_size (octets - place) (omega arith)))
+    (λ h. simp (lt-leb (place + header_size) octets h, lt-leb header_size (octets - place) (omega arith)))
 
 -- Where a block lies and how long it is, in application data of that many octets.
 pub record Bounds (limit octets : ℕ) (block : Block) : Type 0 where
@@ -65,16 +76,6 @@ block_bounds most octets b right =
       most = leb-true _ _ s2.1;
       end = leb-true _ _ s3.1;
     }
-
-pub block_not : (most octets : ℕ) (b : Block) → (Bounds most octets b → ⊥) → block_right most octets b ≡ false
-block_not most octets b not = by-test (block_right most octets b) (λ t. absurd (not (block_bounds most octets b t))) (λ w. w)
-
--- Past the other tests a block is right where it ends in time.
-pub block_ends : (most octets : ℕ) (b : Block) → b.at + header_size ≤ octets → 1 ≤ b.words → b.words ≤ most
-    → block_right most octets b ≡ leb b.next octets
-unfolding block_right
-block_ends most octets b header least small =
-    simp (le-leb (b.at + header_size) octets header, le-leb 1 b.words least, le-leb b.words most small)
 
 -- ---- the words that a block carries
 

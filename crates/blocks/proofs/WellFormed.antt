@@ -1,19 +1,19 @@
 -- Laws of the form of service 6 data: what the tests of the head and of the blocks tell, and when each form is given.
 -- Assumes nothing.
+use Rattle.std.specs.Prelude.{Ok, Err}
 use mathlib.Core.Path.{◌≡◌, refl, ap}
 use mathlib.Core.List.{List}
-use mathlib.Core.Bool.{true, false, ◌&&◌, false≢true}
+use mathlib.Core.Bool.{true, ◌&&◌, false≢true}
 use Prim.Native.Nat.{ℕ, ◌*◌, ◌≤◌}
 use native.Mathlib.Omega.{arith}
 use lib.ListN.{length}
 use lib.Dec.{leb, eqb}
-use borrow.Author.Tests.{le-leb, leb-true, eqb-true, eq-eqb, ne_eqb}
+use borrow.Author.Tests.{leb-true, eqb-true, eq-eqb, ne_eqb}
 use Rattle.laws.specs.Each.{Each}
 use Rattle.laws.proofs.Each.{each_so, each_both}
 use Rattle.laws.proofs.First.{none_each}
 use Rattle.laws.proofs.Tests.{by-test, both}
 use Rattle.blocks.specs.declared.Block.{Block}
-use Rattle.blocks.specs.declared.Form.TheVariants.{Right, Wrong}
 use Rattle.blocks.specs.Blocks.{first_place, block_count, blocks_of, words_of}
 use Rattle.blocks.specs.Form.{blocks_most, block_right, head_right, block_fault, end_of, exact, form_of, is_right}
 use Rattle.blocks.proofs.Blocks.{Bounds, block_bounds, blocks_read, words_length}
@@ -33,28 +33,21 @@ head_facts d right =
     let s1 = both (leb first_place (length d)) (leb 1 (block_count d)) s2.0 in
     record { long = leb-true _ _ s1.0; some = leb-true _ _ s1.1; few = leb-true _ _ s2.1 }
 
-pub head_not : (d : List ℕ) → (HeadFacts d → ⊥) → head_right d ≡ false
-head_not d not = by-test (head_right d) (λ t. absurd (not (head_facts d t))) (λ w. w)
-
-pub head_ends : (d : List ℕ) → first_place ≤ length d → 1 ≤ block_count d → head_right d ≡ leb (block_count d) blocks_most
-unfolding head_right
-head_ends d long some = simp (le-leb first_place (length d) long, le-leb 1 (block_count d) some)
-
 -- ---- when each form is given
 
-pub form_right : (carried most : ℕ) (d : List ℕ) → block_fault carried most d ≡ 0 → end_of first_place (blocks_of carried d) ≡ length d → form_of carried most d ≡ Right
+pub form_right : (carried most : ℕ) (d : List ℕ) → block_fault carried most d ≡ 0 → end_of first_place (blocks_of carried d) ≡ length d → form_of carried most d ≡ Ok tt
 unfolding form_of exact
 form_right carried most d fault end = rw (eq-eqb (block_fault carried most d) 0 fault, eq-eqb (end_of first_place (blocks_of carried d)) (length d) end) refl
 
-pub form_over : (carried most : ℕ) (d : List ℕ) → block_fault carried most d ≡ 0 → (end_of first_place (blocks_of carried d) ≡ length d → ⊥) → form_of carried most d ≡ Wrong 0
+pub form_over : (carried most : ℕ) (d : List ℕ) → block_fault carried most d ≡ 0 → (end_of first_place (blocks_of carried d) ≡ length d → ⊥) → form_of carried most d ≡ Err 0
 unfolding form_of exact
 form_over carried most d fault end = rw (eq-eqb (block_fault carried most d) 0 fault, ne_eqb (end_of first_place (blocks_of carried d)) (length d) end) refl
 
-pub form_wrong : (carried most : ℕ) (d : List ℕ) (k : ℕ) → block_fault carried most d ≡ k → 1 ≤ k → form_of carried most d ≡ Wrong k
+pub form_wrong : (carried most : ℕ) (d : List ℕ) (k : ℕ) → block_fault carried most d ≡ k → 1 ≤ k → form_of carried most d ≡ Err k
 unfolding form_of
 form_wrong carried most d k fault some =
     let other : block_fault carried most d ≡ 0 → ⊥ = λ e. omega arith in
-    rw (ne_eqb (block_fault carried most d) 0 other) (ap Wrong fault)
+    rw (ne_eqb (block_fault carried most d) 0 other) (ap Err fault)
 
 -- Data whose blocks are right has no block at fault, and they end where the data ends.
 pub right_from : (carried most : ℕ) (d : List ℕ) → is_right (form_of carried most d) ≡ true → (block_fault carried most d ≡ 0) × (end_of first_place (blocks_of carried d) ≡ length d)

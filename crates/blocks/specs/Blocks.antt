@@ -1,8 +1,9 @@
 -- Document 01, "Service data": the blocks of service 6.
-use Rattle.std.specs.Prelude.{List, [], ◌∷◌, ℕ, zero, suc, ◌+◌, ◌*◌, min, length}
+use Rattle.std.specs.Prelude.{◌≡◌, Bool, List, [], ◌∷◌, ℕ, zero, suc, ◌+◌, ◌*◌, min, length}
 use Rattle.octets.specs.Numbers.{octet, word16, word32}
 use Rattle.octets.specs.Copy.{between}
 use Rattle.blocks.specs.declared.Block.{Block}
+use Rattle.blocks.specs.declared.reading.Walk.{Walk}
 
 -- The octets before the first block: the memory ID and N.
 abbrev pub first_place : ℕ
@@ -41,6 +42,14 @@ block_count application = octet application 1
 -- The N blocks, from octet 2 on, where a word has so many octets in the application data.
 abbrev pub blocks_of : ℕ → List ℕ → List Block
 blocks_of carried application = blocks_from carried application (block_count application) first_place
+
+-- The blocks that a walk has still to come to.
+abbrev pub blocks_left : Walk → List Block
+blocks_left walk = blocks_from walk.carried walk.application.now walk.left walk.place
+
+-- Each answer that may be given on a block is that of a test.
+abbrev pub Computes : (Block → Bool → Type 0) → (Block → Bool) → Type 0
+Computes answers test = (b : Block) (r : Bool) → answers b r → r ≡ test b
 
 -- The words that a block carries, as octets.
 unfoldable pub words_of : List ℕ → Block → List ℕ

@@ -1,9 +1,7 @@
 -- Document 01, "Service data" and the detail of refusal 5: when application data of service 6 is well formed.
-use Rattle.std.specs.Prelude.{Bool, true, false, cond, ◌&&◌, List, [], ◌∷◌, map, ℕ, ◌+◌, length, leb, eqb}
+use Rattle.std.specs.Prelude.{Bool, cond, is_ok, ◌&&◌, List, [], ◌∷◌, map, ℕ, ◌+◌, length, leb, eqb, Ok, Err, Result}
 use Rattle.laws.specs.First.{first_wrong}
 use Rattle.blocks.specs.declared.Block.{Block}
-use Rattle.blocks.specs.declared.Form.{Form}
-use Rattle.blocks.specs.declared.Form.TheVariants.{Right, Wrong}
 use Rattle.blocks.specs.Blocks.{first_place, header_size, block_count, blocks_of}
 
 -- The most blocks.
@@ -38,17 +36,16 @@ unfoldable pub exact : ℕ → List ℕ → Bool
 exact carried application = eqb (end_of first_place (blocks_of carried application)) (length application)
 
 -- The form of the blocks: the first block at fault; where only octets are left over, the detail is 0.
-unfoldable pub form_of : ℕ → ℕ → List ℕ → Form
+unfoldable pub form_of : ℕ → ℕ → List ℕ → Result Unit ℕ
 form_of carried most application =
     cond (eqb (block_fault carried most application) 0)
-    (cond (exact carried application) Right (Wrong 0))
-    (Wrong (block_fault carried most application))
+    (cond (exact carried application) (Ok tt) (Err 0))
+    (Err (block_fault carried most application))
 
 -- Whether the blocks are well formed, and the detail where they are not.
-abbrev pub is_right : Form → Bool
-is_right Right = true
-is_right (Wrong k) = false
+abbrev pub is_right : Result Unit ℕ → Bool
+is_right form = is_ok form
 
-abbrev pub form_detail : Form → ℕ
-form_detail Right = 0
-form_detail (Wrong k) = k
+abbrev pub form_detail : Result Unit ℕ → ℕ
+form_detail (Ok _) = 0
+form_detail (Err k) = k

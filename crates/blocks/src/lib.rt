@@ -17,13 +17,6 @@ pub struct Block {
     pub next: usize,
 }
 
-// Whether blocks are well formed, and if not the detail of refusal 5.
-#[derive(Clone, Copy)]
-pub enum Form {
-    Right,
-    Wrong(u16),
-}
-
 // The octets before the first block: the memory ID and N.
 pub const FIRST: usize = 2;
 

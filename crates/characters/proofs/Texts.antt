@@ -2,14 +2,15 @@
 -- Assumes nothing.
 use mathlib.Core.Path.{◌≡◌, refl, sym, ap, ◌∙◌}
 use mathlib.Core.List.{List, [], ◌∷◌}
-use Prim.Native.Nat.{ℕ, ◌+◌, ◌*◌, ◌/◌, ◌%◌, ◌≤◌, ◌<◌}
+use Prim.Native.Nat.{ℕ, zero, suc, ◌+◌, ◌/◌, ◌≤◌, ◌<◌}
 use native.Mathlib.Omega.{arith}
-use lib.ListN.{length, get_or, set, take, drop, length-set}
-use lib.Seq.{drop-length}
+use lib.ListN.{length, get_or, set, take, drop, length-set, drop_of_length-le}
+use Rattle.std.proofs.lemmas.List.{get_or-take}
+use Rattle.std.specs.Simd.{first_chunks}
 use Rattle.laws.proofs.Lists.{drop_next}
 use Rattle.octets.specs.Copy.{laid}
-use Rattle.octets.proofs.Laid.{laid_past, laid_front}
-use Rattle.characters.specs.Digits.{value_of, digit_of, text_of, octets_in}
+use Rattle.octets.proofs.Laid.{laid_past, laid_next, laid_front}
+use Rattle.characters.specs.Digits.{digit_of, text_of, octet_of, octets_in}
 
 -- ---- the text of octets
 
@@ -24,9 +25,9 @@ laid_text_next d at s i h =
     ∙ ap (λ (r : List ℕ). laid d at (text_of r)) (sym (drop_next s i h))
 
 -- At the end no text is left.
-pub laid_text_end : (d : List ℕ) (at : ℕ) (s : List ℕ) → laid d at (text_of (drop (length s) s)) ≡ d
+pub laid_text_end : (d : List ℕ) (at : ℕ) (s : List ℕ) (i : ℕ) → length s ≤ i → laid d at (text_of (drop i s)) ≡ d
 unfolding laid text_of
-laid_text_end d at s = ap (λ (r : List ℕ). laid d at (text_of r)) (drop-length s)
+laid_text_end d at s i h = ap (λ (r : List ℕ). laid d at (text_of r)) (drop_of_length-le s h)
 
 -- Where less than two characters have room, one octet fills the text.
 pub laid_text_full : (d : List ℕ) (at : ℕ) (s : List ℕ) (i : ℕ) → i < length s → length d ≤ at + 1
@@ -39,38 +40,34 @@ laid_text_full d at s i h full =
 
 -- ---- the octets of a text
 
-pub two_more : (s : List ℕ) (i : ℕ) → 2 * i + 1 < length s
-    → drop (2 * i) s ≡ get_or s (2 * i) 0 ∷ get_or s (2 * i + 1) 0 ∷ drop (2 * (i + 1)) s
-two_more s i h =
-    let behind : 2 * i + 1 + 1 ≡ 2 * (i + 1) = omega arith in
-    drop_next s (2 * i) (omega arith)
-    ∙ ap (λ (r : List ℕ). get_or s (2 * i) 0 ∷ r)
-    (drop_next s (2 * i + 1) h ∙ ap (λ (n : ℕ). get_or s (2 * i + 1) 0 ∷ drop n s) behind)
-
--- An octet set, and behind it those that follow.
-pub laid_octets_next : (d s : List ℕ) (at i high low : ℕ) → 2 * i + 1 < length s → high ≡ value_of (get_or s (2 * i) 0) → low ≡ value_of (get_or s (2 * i + 1) 0)
-    → laid (set d at (high % 16 * 16 + low % 16)) (at + 1) (octets_in (drop (2 * (i + 1)) s)) ≡ laid d at (octets_in (drop (2 * i) s))
-unfolding laid octets_in
-laid_octets_next d s at i high low h e f =
-    rw (e, f) (sym (ap (λ (r : List ℕ). laid d at (octets_in r)) (two_more s i h)))
-
--- One character alone is no octet.
-pub one_left : (s : List ℕ) → length s ≤ 1 → octets_in s ≡ []
-unfolding octets_in
-one_left [] h = refl
-one_left (c ∷ []) h = refl
-one_left (c ∷ e ∷ s) h = absurd (omega arith)
-
--- At the end no octet is left.
-pub laid_octets_end : (d : List ℕ) (at i : ℕ) (s : List ℕ) → length (drop (2 * i) s) ≤ 1 → laid d at (octets_in (drop (2 * i) s)) ≡ d
-unfolding laid
-laid_octets_end d at i s h = ap (λ (r : List ℕ). laid d at r) (one_left (drop (2 * i) s) h)
-
 pub octets_length : (s : List ℕ) → length (octets_in s) ≡ length s / 2
 unfolding octets_in
 octets_length [] = refl
 octets_length (h ∷ []) = refl
 octets_length (h ∷ l ∷ s) = let more : length (octets_in s) ≡ length s / 2 = octets_length s in omega arith
+
+-- Each is that of a pair of characters.
+pair_from : (s : List ℕ) (n i : ℕ) → n ≡ length s / 2 → i < n
+    → octet_of (get_or (get_or (first_chunks 2 n s) i []) 0 0) (get_or (get_or (first_chunks 2 n s) i []) 1 0) ≡ get_or (octets_in s) i 0
+unfolding octets_in
+pair_from s zero i e h = absurd (omega arith)
+pair_from [] (suc n) i e h = absurd (omega arith)
+pair_from (c ∷ []) (suc n) i e h = absurd (omega arith)
+pair_from (c ∷ d ∷ s) (suc n) zero e h = refl
+pair_from (c ∷ d ∷ s) (suc n) (suc i) e h = pair_from s n i (omega arith) (omega arith)
+
+pub pair_octet : (s : List ℕ) {pairs : List (List ℕ)} → pairs ≡ first_chunks 2 (length s / 2) s → (i : ℕ) → i < length s / 2
+    → octet_of (get_or (get_or pairs i []) 0 0) (get_or (get_or pairs i []) 1 0) ≡ get_or (octets_in s) i 0
+pair_octet s e i h = rw e (pair_from s (length s / 2) i refl h)
+
+-- One octet more is laid.
+pub octets_next : (d : List ℕ) (at : ℕ) (s : List ℕ) (i count : ℕ) (pairs : List (List ℕ)) {x : ℕ}
+    → pairs ≡ first_chunks 2 (length s / 2) s → i < count → i < length s / 2
+    → x ≡ octet_of (get_or (get_or (take count pairs) i []) 0 0) (get_or (get_or (take count pairs) i []) 1 0)
+    → set (laid d at (take i (octets_in s))) (at + i) x ≡ laid d at (take (i + 1) (octets_in s))
+octets_next d at s i count pairs e h k f =
+    let pair : get_or (take count pairs) i [] ≡ get_or pairs i [] = get_or-take count pairs i [] h in
+    rw (f, pair, pair_octet s e i k) (laid_next d at (octets_in s) i (omega (arith, octets_length s)))
 
 -- The octets of a text stand at the front of what holds them, where that has room.
 pub decoded_front : (d s : List ℕ) → length s / 2 ≤ length d → take (length s / 2) (laid d 0 (octets_in s)) ≡ octets_in s

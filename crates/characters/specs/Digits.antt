@@ -44,8 +44,12 @@ unfoldable pub bad_place : List ℕ → ℕ
 bad_place [] = 0
 bad_place (c ∷ rest) = cond (is_digit_of c) (suc (bad_place rest)) 0
 
--- The octets of a text, two digits each; of what is no digit, the low four bits of its value.
+-- The octet of two digits, the high one first; of what is no digit, the low four bits of its value.
+abbrev pub octet_of : ℕ → ℕ → ℕ
+octet_of high low = value_of high % 16 * 16 + value_of low % 16
+
+-- The octets of a text, two digits each.
 unfoldable pub octets_in : List ℕ → List ℕ
 octets_in [] = []
 octets_in (high ∷ []) = []
-octets_in (high ∷ low ∷ rest) = (value_of high % 16 * 16 + value_of low % 16) ∷ octets_in rest
+octets_in (high ∷ low ∷ rest) = octet_of high low ∷ octets_in rest

@@ -2,11 +2,12 @@
 #![tactic(auto)]
 
 ghost use Rattle.std.specs.Prelude.{◌≡◌};
-ghost use Rattle.characters.specs.Digits.{value_of, upper_of, digit_of};
+ghost use Rattle.characters.specs.Digits.{value_of, octet_of, upper_of, digit_of};
 
 pub mod text; // text.rt: the text of octets, and the octets of a text
 
 // The value of a character that is a digit, 0 to 9, A to F or a to f; 16 for one that is none.
+// 16 and no `None`: so the definition `value_of` has it, and the greatest value tells whether all characters of a text are digits.
 #[tactic(auto, unfolding(crate::specs::Digits::value_of))]
 pub fn value(c: u8) -> u8
     ensures { result ≡ value_of c }
@@ -17,6 +18,13 @@ pub fn value(c: u8) -> u8
         b'a'..=b'f' => c - b'a' + 10,
         _ => 16,
     }
+}
+
+// The octet of two digits, the high one first; of what is no digit, the low four bits of its value.
+pub fn octet(high: u8, low: u8) -> u8
+    ensures { result ≡ octet_of high low }
+{
+    value(high) % 16 * 16 + value(low) % 16
 }
 
 // The upper-case digit of a number's low four bits.

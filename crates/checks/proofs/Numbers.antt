@@ -1,5 +1,6 @@
 -- Which numbers the checks have, and which of them are silent.
 -- Assumes nothing.
+use Rattle.std.specs.Prelude.{Ok, Err}
 use mathlib.Core.Path.{◌≡◌, refl, sym}
 use mathlib.Core.Bool.{Bool, true, false, not, false≢true}
 use mathlib.Core.List.{List, [], ◌∷◌}
@@ -9,8 +10,7 @@ use Rattle.laws.specs.Each.{every, among}
 use Rattle.laws.proofs.Each.{every-among}
 use Rattle.checks.specs.declared.Check.{Check}
 use Rattle.checks.specs.declared.Check.TheVariants.{Buffer, Caller, Short, Length, Control, Header, Apid, Service, Subtype, Form, Memory, Right, Outside}
-use Rattle.checks.specs.declared.Verdict.{Verdict}
-use Rattle.checks.specs.declared.Verdict.TheVariants.{Accepted, Refused}
+use Rattle.checks.specs.Verdict.{Verdict}
 use Rattle.checks.specs.Verdict.{check_number, is_accepted, number_of, silent}
 
 -- The numbers of the checks, in checking order.
@@ -51,8 +51,8 @@ alike_same false false h = refl
 -- The verdicts without a frame are those numbered 40, 41 and 42.
 pub silent_numbers : (v : Verdict) → silent v ≡ among (number_of v) (40 ∷ 41 ∷ 42 ∷ [])
 unfolding among every
-silent_numbers Accepted = refl
-silent_numbers (Refused r) =
+silent_numbers (Ok _) = refl
+silent_numbers (Err r) =
     alike_same _ _ (every_number (λ (n : ℕ). alike (leb 40 n) (among n (40 ∷ 41 ∷ 42 ∷ []))) by_all r.check)
   where
     by_all : every (λ (n : ℕ). alike (leb 40 n) (among n (40 ∷ 41 ∷ 42 ∷ []))) numbers ≡ true
@@ -60,5 +60,5 @@ silent_numbers (Refused r) =
 
 -- A verdict without a frame is a refusal.
 pub silent_refuses : (v : Verdict) → silent v ≡ true → is_accepted v ≡ false
-silent_refuses Accepted h = absurd (false≢true h)
-silent_refuses (Refused r) h = refl
+silent_refuses (Ok _) h = absurd (false≢true h)
+silent_refuses (Err r) h = refl

@@ -1,10 +1,8 @@
 -- Document 01, "Refusal numbers in checking order": the number of each check, and the number and the detail of a verdict.
-use Rattle.std.specs.Prelude.{Bool, true, false, List, ℕ, leb}
+use Rattle.std.specs.Prelude.{Bool, true, false, List, ℕ, is_ok, leb, Result, Ok, Err}
 use Rattle.checks.specs.declared.Check.{Check}
 use Rattle.checks.specs.declared.Check.TheVariants.{Buffer, Caller, Short, Length, Control, Header, Apid, Service, Subtype, Form, Memory, Right, Outside}
 use Rattle.checks.specs.declared.Refusal.{Refusal}
-use Rattle.checks.specs.declared.Verdict.{Verdict}
-use Rattle.checks.specs.declared.Verdict.TheVariants.{Accepted, Refused}
 use Rattle.checks.specs.Table.{Row, answer}
 
 -- The number of each check, as the table has it.
@@ -27,20 +25,23 @@ check_number Outside = 19
 abbrev pub refusal : Check → ℕ → Refusal
 refusal check detail = record { check = check; detail = detail }
 
+-- What a packet is answered: acceptance, or the refusal of the first check that fails.
+abbrev pub Verdict : Type 0
+Verdict = Result Unit Refusal
+
 -- Acceptance is marked apart from number 0.
 abbrev pub is_accepted : Verdict → Bool
-is_accepted Accepted = true
-is_accepted (Refused r) = false
+is_accepted v = is_ok v
 
 -- The number of a refusal; 0 also stands for acceptance, which has none.
 abbrev pub number_of : Verdict → ℕ
-number_of Accepted = 0
-number_of (Refused r) = check_number r.check
+number_of (Ok _) = 0
+number_of (Err r) = check_number r.check
 
 -- The detail of a refusal, 0 for none.
 abbrev pub detail_of : Verdict → ℕ
-detail_of Accepted = 0
-detail_of (Refused r) = r.detail
+detail_of (Ok _) = 0
+detail_of (Err r) = r.detail
 
 -- 40, 41 and 42 give no frame: the numbers from 40 on.
 abbrev pub silent : Verdict → Bool
@@ -52,4 +53,4 @@ row check detail holds = record { refusal = refusal check detail; holds = holds 
 
 -- The verdict of some rows: the refusal of the first that does not hold, or acceptance.
 abbrev pub verdict_by : List (Row Refusal) → Verdict
-verdict_by rows = answer Accepted Refused rows
+verdict_by rows = answer (Ok tt) Err rows

@@ -1,8 +1,8 @@
 // Document 01, "Refusal numbers in checking order": the checks with their numbers, and what a packet is answered.
 #![tactic(auto)]
 
-ghost use Rattle.std.specs.Prelude.{◌≡◌};
-ghost use Rattle.checks.specs.Verdict.{check_number, is_accepted, number_of, detail_of, silent};
+ghost use Rattle.std.specs.Prelude.{◌≡◌, Err};
+ghost use Rattle.checks.specs.Verdict.{check_number, refusal, number_of, detail_of, silent};
 
 // The checks, in checking order.
 #[derive(Clone, Copy)]
@@ -43,51 +43,39 @@ pub struct Refusal {
 }
 
 // What a packet is answered: acceptance, or the refusal of the first check that fails.
-#[derive(Clone, Copy)]
-pub enum Verdict {
-    Accepted,
-    Refused(Refusal),
-}
+pub type Verdict = Result<(), Refusal>;
 
 // The first of the numbers whose refusals give no frame.
 const SILENT: u16 = 40;
 
 // The number of a check.
-pub fn check_number(check: Check) -> u16
-    ensures { result ≡ check_number check }
-{
-    match check {
-        Check::Buffer => 40,
-        Check::Caller => 41,
-        Check::Short => 42,
-        Check::Length => 1,
-        Check::Control => 2,
-        Check::Header => 16,
-        Check::Apid => 0,
-        Check::Service => 3,
-        Check::Subtype => 4,
-        Check::Form => 5,
-        Check::Memory => 17,
-        Check::Right => 18,
-        Check::Outside => 19,
+impl From<Check> for u16 {
+    ghost from_gives = { λ check number. number ≡ check_number check };
+
+    fn from(check: Check) -> u16 {
+        match check {
+            Check::Buffer => 40,
+            Check::Caller => 41,
+            Check::Short => 42,
+            Check::Length => 1,
+            Check::Control => 2,
+            Check::Header => 16,
+            Check::Apid => 0,
+            Check::Service => 3,
+            Check::Subtype => 4,
+            Check::Form => 5,
+            Check::Memory => 17,
+            Check::Right => 18,
+            Check::Outside => 19,
+        }
     }
 }
 
-// The verdict of a check that failed.
-pub fn refuse(check: Check, detail: u16) -> Verdict
-    ensures { result ≡ Verdict.Refused (record { check = check; detail = detail }) }
+// The refusal of a check that failed, whatever is answered where none does.
+pub fn refuse<T>(check: Check, detail: u16) -> Result<T, Refusal>
+    ensures { result ≡ Err (refusal check detail) }
 {
-    Verdict::Refused(Refusal { check, detail })
-}
-
-// Whether a verdict is acceptance.
-pub fn accepted(v: Verdict) -> bool
-    ensures { result ≡ is_accepted v }
-{
-    match v {
-        Verdict::Accepted => true,
-        Verdict::Refused(_) => false,
-    }
+    Err(Refusal { check, detail })
 }
 
 // The number of a refusal, and 0 of acceptance.
@@ -95,11 +83,8 @@ pub fn number(v: Verdict) -> u16
     ensures { result ≡ number_of v }
 {
     match v {
-        Verdict::Accepted => 0,
-        Verdict::Refused(refusal) => {
-            let check = refusal.check;
-            check_number(check)
-        }
+        Ok(()) => 0,
+        Err(refusal) => refusal.check.into(),
     }
 }
 
@@ -108,8 +93,8 @@ pub fn detail(v: Verdict) -> u16
     ensures { result ≡ detail_of v }
 {
     match v {
-        Verdict::Accepted => 0,
-        Verdict::Refused(refusal) => refusal.detail,
+        Ok(()) => 0,
+        Err(refusal) => refusal.detail,
     }
 }
 

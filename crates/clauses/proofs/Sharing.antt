@@ -6,13 +6,15 @@ use mathlib.Core.Path.{◌≡◌}
 use Prim.Native.Nat.{ℕ, ◌+◌, ◌<◌}
 use native.Mathlib.Omega.{arith}
 use lib.Dec.{eqb}
+use Rattle.std.specs.Prelude.{Result, Ok, Err}
 use Rattle.laws.proofs.Tests.{cond_cases}
 use Rattle.map.specs.declared.Area.{Area}
 use Rattle.map.specs.Place.{octets_of}
 use Rattle.map.specs.Sound.{area_sound, apart}
 use Rattle.map.proofs.Soundness.{area_facts}
 use Rattle.map.proofs.Octets.{octets_below, meet_octets}
-use Rattle.clauses.specs.declared.Clause.TheVariants.{Sound, SameId, Shared}
+use Rattle.clauses.specs.declared.Clause.{Clause}
+use Rattle.clauses.specs.declared.Clause.TheVariants.{SameId, Shared}
 use Rattle.clauses.specs.Clauses.{shared_octet, pair_clause, FirstShared}
 
 -- An area of some words ends behind its beginning.
@@ -24,7 +26,7 @@ pub shared-first :
     (octets : ℕ) (a b : Area) (i j k : ℕ)
     → area_sound octets a ≡ true
     → area_sound octets b ≡ true
-    → pair_clause i a j b ≡ Shared i j k
+    → pair_clause i a j b ≡ Err (Shared i j k)
     → FirstShared a b k
 unfolding pair_clause
 shared-first octets a b i j k sa sb h =
@@ -38,5 +40,5 @@ shared-first octets a b i j k sa sb h =
     let m = meet_octets a b v.0 in
     let e : shared_octet a b ≡ k = cc in
     record { one = (omega arith, omega arith); other = (omega arith, omega arith); least = λ n x y. omega arith })
-    (cond_cases (apart a b) Sound (Shared i j (shared_octet a b)) (Shared i j k) w.1))
-    (cond_cases (eqb a.id b.id) (SameId i j) (cond (apart a b) Sound (Shared i j (shared_octet a b))) (Shared i j k) h)
+    (cond_cases {A = Result Unit Clause} (apart a b) (Ok tt) (Err (Shared i j (shared_octet a b))) (Err (Shared i j k)) w.1))
+    (cond_cases {A = Result Unit Clause} (eqb a.id b.id) (Err (SameId i j)) (cond (apart a b) (Ok tt) (Err (Shared i j (shared_octet a b)))) (Err (Shared i j k)) h)

@@ -4,7 +4,7 @@ use Rattle.lines.specs.Lines.{newline}
 use Rattle.words.specs.Ascii.{ascii}
 use Rattle.numerals.specs.Numbers.{decimal_of}
 use Rattle.clauses.specs.declared.Clause.{Clause}
-use Rattle.clauses.specs.declared.Clause.TheVariants.{Sound, OddStore, LongStore, Pid, Count, NoWords, PastTop, PastStore, SameId, Shared}
+use Rattle.clauses.specs.declared.Clause.TheVariants.{OddStore, LongStore, Pid, Count, NoWords, PastTop, PastStore, SameId, Shared}
 
 -- What is said of one area, and of two.
 abbrev pub of_area : ℕ → List ℕ → List ℕ
@@ -15,7 +15,6 @@ of_areas i j words = ascii "areas " ++ (decimal_of i ++ (ascii " and " ++ (decim
 
 -- The clause of soundness that fails.
 abbrev pub clause_words : Clause → List ℕ
-clause_words Sound = []
 clause_words OddStore = ascii "the store has an odd number of octets"
 clause_words LongStore = ascii "the store has more than 65536 octets"
 clause_words Pid = ascii "the PID is above 127"

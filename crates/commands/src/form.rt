@@ -1,10 +1,28 @@
 // Which command a line is, and whether the octets that it is given are those that the command takes.
 ghost use Rattle.std.specs.Prelude.{◌≡◌, drop};
-ghost use Rattle.commands.specs.Form.{is_line, stands_alone, rights_known, is_profile, is_buffer, is_order, takes, command_of};
+ghost use Rattle.commands.specs.Form.{is_line, alone, taking, rights_known, is_profile, is_buffer, is_order, command_of};
 
-use crate::session::{
-    AREA_OCTETS, AREAS, HEAD_OCTETS, OUT_ROOM, RIGHTS_AT, STORE_ROOM, TIME_OCTETS,
-};
+use crate::session::{AREA_OCTETS, HEAD_OCTETS, OUT_ROOM, RIGHTS_AT, STORE_ROOM, TIME_OCTETS};
+use map::AREAS;
+
+// The commands: those that set something, and those that print something.
+#[derive(Clone, Copy)]
+pub enum Command {
+    SetProfile,
+    SetStore,
+    SetCounts,
+    SetTime,
+    SetBuffer,
+    Answer,
+    PrintBuffer,
+    PrintStore,
+    Read,
+    Write,
+    Check,
+    CheckFrom,
+    Wider,
+    ReadFrames,
+}
 
 // The most octets that a line gives, and the most characters of a line: a letter, a space, and two digits for each.
 pub const GIVEN_MOST: usize = 70000;
@@ -32,79 +50,70 @@ const RIGHTS_MOST: u16 = 7;
 pub fn is_line(line: &[u8]) -> bool
     ensures { result ≡ is_line line.now }
 {
-    if line.len() == 1 {
-        return true;
-    }
-    if line.len() < 2 {
-        return false;
-    }
-    if LINE_MOST < line.len() {
-        return false;
-    }
-    let odd = line.len() % 2;
-    if odd != 0 {
-        return false;
-    }
-    if line[1] != b' ' {
-        return false;
-    }
-    characters::text::all_digits(digits(line))
+    let n = line.len();
+    n == 1
+        || n >= 2
+            && n <= LINE_MOST
+            && n % 2 == 0
+            && line[1] == b' '
+            && characters::text::all_digits(digits(line))
 }
 
 // The digits of a line: what stands behind its letter and its space.
 pub fn digits(line: &[u8]) -> &[u8]
     ensures { result.now ≡ drop 2 line.now }
 {
-    if line.len() < 2 {
-        return &line[..0];
-    }
-    &line[2..]
+    line.get(2..).unwrap_or(&[])
 }
 
-// The letter of a line that is given those octets, where it is a command that stands alone, or one that takes them; 0 for any other line, which is bad.
+// The command of a line that is given those octets; a line that is none is bad.
 #[tactic(auto, unfolding(crate::specs::Form::command_of))]
-pub fn asked(line: &[u8], given: &[u8]) -> u8
+pub fn asked(line: &[u8], given: &[u8]) -> Option<Command>
     ensures { result ≡ command_of line.now given.now }
 {
     if !is_line(line) {
-        return 0;
+        return None;
     }
-    let letter = octets::numbers::octet_at(line, 0) as u8;
-    let right = if line.len() == 1 {
-        stands_alone(letter)
+    let letter = octets::numbers::one(line, 0);
+    if line.len() == 1 {
+        alone(letter)
     } else {
-        takes(letter, given)
-    };
-    if right { letter } else { 0 }
+        taking(letter, given)
+    }
 }
 
-// Whether a letter is a command by itself.
-fn stands_alone(letter: u8) -> bool
-    ensures { result ≡ stands_alone letter }
+// The command that is a letter alone.
+#[tactic(auto, unfolding(crate::specs::Form::alone))]
+fn alone(letter: u8) -> Option<Command>
+    ensures { result ≡ alone letter }
 {
-    letter == b'O' || letter == b'M'
+    match letter {
+        b'O' => Some(Command::PrintBuffer),
+        b'M' => Some(Command::PrintStore),
+        _ => None,
+    }
 }
 
-// Whether a letter is a command that takes octets, and takes these.
-#[tactic(auto, unfolding(crate::specs::Form::takes))]
-fn takes(letter: u8, given: &[u8]) -> bool
-    ensures { result ≡ takes letter given.now }
+// The command of a letter that is given octets, where it takes these.
+#[tactic(auto, unfolding(crate::specs::Form::taking))]
+fn taking(letter: u8, given: &[u8]) -> Option<Command>
+    ensures { result ≡ taking letter given.now }
 {
     let n = given.len();
     match letter {
-        b'P' => is_profile(given),
-        b'V' => is_profile(given),
-        b'S' => n <= STORE_ROOM,
-        b'K' => n == counts::OCTETS,
-        b'T' => n == TIME_OCTETS,
-        b'B' => is_buffer(given),
-        b'X' => n <= PACKET_MOST,
-        b'R' => true,
-        b'W' => is_order(given),
-        b'C' => true,
-        b'D' => START_OCTETS <= n,
-        b'F' => n <= PACKET_MOST,
-        _ => false,
+        b'P' if is_profile(given) => Some(Command::SetProfile),
+        b'S' if n <= STORE_ROOM => Some(Command::SetStore),
+        b'K' if n == counts::OCTETS => Some(Command::SetCounts),
+        b'T' if n == TIME_OCTETS => Some(Command::SetTime),
+        b'B' if is_buffer(given) => Some(Command::SetBuffer),
+        b'X' if n <= PACKET_MOST => Some(Command::Answer),
+        b'R' => Some(Command::Read),
+        b'W' if is_order(given) => Some(Command::Write),
+        b'C' => Some(Command::Check),
+        b'D' if n >= START_OCTETS => Some(Command::CheckFrom),
+        b'V' if is_profile(given) => Some(Command::Wider),
+        b'F' if n <= PACKET_MOST => Some(Command::ReadFrames),
+        _ => None,
     }
 }
 
@@ -113,35 +122,20 @@ fn takes(letter: u8, given: &[u8]) -> bool
 fn is_profile(given: &[u8]) -> bool
     ensures { result ≡ is_profile given.now }
 {
-    if given.len() < HEAD_OCTETS {
-        return false;
-    }
-    let areas = given.len() - HEAD_OCTETS;
-    if areas % AREA_OCTETS != 0 {
-        return false;
-    }
-    if AREAS < areas / AREA_OCTETS {
-        return false;
-    }
-    if FLAGS_MOST < octets::numbers::octet_at(given, 1) {
-        return false;
-    }
-    rights_known(given)
+    let areas = given.len().saturating_sub(HEAD_OCTETS);
+    given.len() >= HEAD_OCTETS
+        && areas % AREA_OCTETS == 0
+        && areas / AREA_OCTETS <= AREAS
+        && octets::numbers::octet_at(given, 1) <= FLAGS_MOST
+        && rights_known(given)
 }
 
 // Whether the rights of each area are among the three that there are; octets past the end count as 0.
-#[tactic(auto, using(crate::proofs::Forms::rights_next))]
+#[tactic(auto, unfolding(crate::specs::Form::rights_known))]
 fn rights_known(given: &[u8]) -> bool
-    ensures { result ≡ rights_known 8 given.now }
+    ensures { result ≡ rights_known given.now }
 {
-    let mut k = AREAS;
-    while k > 0 {
-        k -= 1;
-        if RIGHTS_MOST < octets::numbers::octet_at(given, RIGHTS_AT + AREA_OCTETS * k) {
-            return false;
-        }
-    }
-    true
+    (0..AREAS).all(|k| octets::numbers::octet_at(given, RIGHTS_AT + AREA_OCTETS * k) <= RIGHTS_MOST)
 }
 
 // A length of at most 8,192, and an octet.
@@ -149,10 +143,7 @@ fn rights_known(given: &[u8]) -> bool
 fn is_buffer(given: &[u8]) -> bool
     ensures { result ≡ is_buffer given.now }
 {
-    if given.len() != 3 {
-        return false;
-    }
-    (octets::numbers::word16_at(given, 0) as usize) <= OUT_ROOM
+    given.len() == 3 && octets::numbers::word16_at(given, 0) as usize <= OUT_ROOM
 }
 
 // An order to the writer, and a checksum flag of 0 or 1.
@@ -160,8 +151,5 @@ fn is_buffer(given: &[u8]) -> bool
 fn is_order(given: &[u8]) -> bool
     ensures { result ≡ is_order given.now }
 {
-    if given.len() < ORDER_OCTETS {
-        return false;
-    }
-    octets::numbers::octet_at(given, FLAG_AT) <= 1
+    given.len() >= ORDER_OCTETS && octets::numbers::octet_at(given, FLAG_AT) <= 1
 }

@@ -13,6 +13,7 @@ pub struct Session {
     pub profile: Profile,
     pub state: State,
     pub time: [u8; 6],
+    // The store and the output buffer are arrays of a fixed size that the program has, since nothing is allocated; of each a front is used.
     pub stored: usize,
     pub room: usize,
 }
@@ -30,14 +31,12 @@ pub type Out = [u8; OUT_ROOM];
 // How many octets the time is.
 pub const TIME_OCTETS: usize = 6;
 
-// How many octets stand before the areas of a profile, how many an area has, where the rights of the first stand, and how many areas there are at the most.
+// How many octets stand before the areas of a profile, how many an area has, and where the rights of the first stand.
 pub const HEAD_OCTETS: usize = 3;
 
 pub const AREA_OCTETS: usize = 14;
 
 pub const RIGHTS_AT: usize = 16;
-
-pub const AREAS: usize = 8;
 
 // The lengths of store and output buffer at the start.
 const STORED: usize = 128;
@@ -63,19 +62,17 @@ pub fn start(profile: Profile) -> Session
 pub fn with_state(s: Session, state: State) -> Session
     ensures { result ≡ with_state s state }
 {
-    let mut next = s;
-    next.state = state;
-    next
+    Session { state, ..s }
 }
 
 // P: the profile.
 pub fn set_profile(s: Session, given: &[u8]) -> Session
     ensures { result ≡ with_profile s (profile_in given.now) }
 {
-    let profile = profile_in(given);
-    let mut next = s;
-    next.profile = profile;
-    next
+    Session {
+        profile: profile_in(given),
+        ..s
+    }
 }
 
 // PID, flags, area count, areas.
@@ -93,16 +90,7 @@ pub fn profile_in(given: &[u8]) -> Profile
             connection: flags / 8 % 2 == 1,
         },
         count: octets::numbers::one(given, 2),
-        areas: [
-            area_at(given, 0),
-            area_at(given, 1),
-            area_at(given, 2),
-            area_at(given, 3),
-            area_at(given, 4),
-            area_at(given, 5),
-            area_at(given, 6),
-            area_at(given, 7),
-        ],
+        areas: std::array::from_fn(|k| area_at(given, k)),
     }
 }
 
@@ -132,9 +120,8 @@ pub fn set_store(s: Session, given: &[u8], store: &mut [u8]) -> Session
     ensures value { result ≡ with_stored s (length given.now) }
     ensures store_after { store.new ≡ laid store.old 0 given.now }
 {
-    let mut next = s;
-    next.stored = octets::copy::put(store, 0, given);
-    next
+    let stored = octets::copy::put(store, 0, given);
+    Session { stored, ..s }
 }
 
 // K: the counts.
@@ -149,17 +136,8 @@ pub fn set_counts(s: Session, given: &[u8]) -> Session
 pub fn set_time(s: Session, given: &[u8]) -> Session
     ensures { result ≡ with_time s (time_in given.now) }
 {
-    let time = [
-        octets::numbers::one(given, 0),
-        octets::numbers::one(given, 1),
-        octets::numbers::one(given, 2),
-        octets::numbers::one(given, 3),
-        octets::numbers::one(given, 4),
-        octets::numbers::one(given, 5),
-    ];
-    let mut next = s;
-    next.time = time;
-    next
+    let time = std::array::from_fn(|k| octets::numbers::one(given, k));
+    Session { time, ..s }
 }
 
 // B: the output buffer's length, and the octet that fills it.
@@ -169,7 +147,6 @@ pub fn set_buffer(s: Session, given: &[u8], out: &mut [u8]) -> Session
 {
     let full = [octets::numbers::one(given, 2); OUT_ROOM];
     let length = octets::numbers::word16_at(given, 0) as usize;
-    let mut next = s;
-    next.room = octets::copy::put(out, 0, lines::front(&full, length));
-    next
+    let room = octets::copy::put(out, 0, lines::front(&full, length));
+    Session { room, ..s }
 }

@@ -3,9 +3,10 @@
 use mathlib.Core.Path.{◌≡◌, refl}
 use mathlib.Core.Bool.{true, false}
 use mathlib.Core.List.{[]}
+use Rattle.packline.specs.declared.Halt.TheVariants.{NoPacket}
 use Rattle.desk.specs.declared.Desk.{Desk}
 use Rattle.desk.specs.Place.{halting, is_halted}
-use Rattle.concluding.specs.Closing.{halt_none, conforming_text, no_packet_text, closing_says, closing_desk}
+use Rattle.concluding.specs.Closing.{conforming_text, no_packet_text, closing_says, closing_desk}
 
 pub closing_halted : (d : Desk) → is_halted d ≡ true → ([] ≡ closing_says d) × (d ≡ closing_desk d)
 unfolding closing_says closing_desk
@@ -15,6 +16,6 @@ pub closing_some : (d : Desk) → is_halted d ≡ false → d.group.some ≡ tru
 unfolding closing_says closing_desk
 closing_some d h t = rw (h, t) (refl, refl)
 
-pub closing-none : (d : Desk) → is_halted d ≡ false → d.group.some ≡ false → (no_packet_text ≡ closing_says d) × (halting d halt_none ≡ closing_desk d)
+pub closing-none : (d : Desk) → is_halted d ≡ false → d.group.some ≡ false → (no_packet_text ≡ closing_says d) × (halting d NoPacket ≡ closing_desk d)
 unfolding closing_says closing_desk
 closing-none d h t = rw (h, t) (refl, refl)

@@ -3,14 +3,9 @@ use Rattle.std.specs.Prelude.{cond, List, [], ◌∷◌, ◌++◌, ℕ}
 use Rattle.lines.specs.Lines.{newline}
 use Rattle.words.specs.Ascii.{ascii}
 use Rattle.numerals.specs.Numbers.{decimal_of}
-use Rattle.packline.specs.declared.Halt.{Halt}
-use Rattle.packline.specs.Record.{halt_by}
+use Rattle.packline.specs.declared.Halt.TheVariants.{NoPacket}
 use Rattle.desk.specs.declared.Desk.{Desk}
 use Rattle.desk.specs.Place.{halting, is_halted}
-
--- Why the judge stops where there is no packet.
-abbrev pub halt_none : Halt
-halt_none = halt_by 5
 
 -- What is said where no line differs: `conforming`, and how many packets and frames were compared, or `refused 71` where there was no packet.
 abbrev pub conforming_text : ℕ → ℕ → List ℕ
@@ -25,4 +20,4 @@ closing_says d =
     cond (is_halted d) [] (cond d.group.some (conforming_text d.group.packets d.group.frames) no_packet_text)
 
 unfoldable pub closing_desk : Desk → Desk
-closing_desk d = cond (is_halted d) d (cond d.group.some d (halting d halt_none))
+closing_desk d = cond (is_halted d) d (cond d.group.some d (halting d NoPacket))

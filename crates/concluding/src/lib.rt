@@ -6,9 +6,7 @@ ghost use Rattle.saying.specs.Text.{SaysBy};
 ghost use Rattle.concluding.specs.Closing.{conforming_text, closing_says, closing_desk};
 
 use desk::{Desk, Done};
-
-// Why the judge stops where there is no packet.
-const NO_PACKET: u8 = 5;
+use packline::Halt;
 
 // Adds `conforming`, and how many packets and frames were compared.
 fn put_conforming(packets: u64, frames: u64, text: &mut [u8], at: usize) -> usize
@@ -22,6 +20,7 @@ fn put_conforming(packets: u64, frames: u64, text: &mut [u8], at: usize) -> usiz
 }
 
 // The last verdict, behind a record of which no line differs and none is refused.
+#[tactic(auto, using(octets::proofs::Laid::laid_none), unfolding(crate::specs::Closing::closing_says, crate::specs::Closing::closing_desk))]
 pub fn conclude(d: Desk, text: &mut [u8], at: usize) -> Done
     ensures says_by { SaysBy (closing_says d) at text result.at }
     ensures desk_value { result.desk ≡ closing_desk d }
@@ -29,9 +28,8 @@ pub fn conclude(d: Desk, text: &mut [u8], at: usize) -> Done
     if desk::is_halted(d) {
         return desk::nothing(d, text, at);
     }
-    let group = d.group;
-    if group.some {
-        let behind = put_conforming(group.packets, group.frames, text, at);
+    if d.group.some {
+        let behind = put_conforming(d.group.packets, d.group.frames, text, at);
         return Done {
             at: behind,
             desk: d,
@@ -40,6 +38,6 @@ pub fn conclude(d: Desk, text: &mut [u8], at: usize) -> Done
     let behind = saying::text(text, at, b"refused 71\n");
     Done {
         at: behind,
-        desk: desk::halting(d, packline::stops(NO_PACKET)),
+        desk: desk::halting(d, Halt::NoPacket),
     }
 }

@@ -1,5 +1,6 @@
 -- Source data both ways: what is right for a kind is the source data of what is read in it, and what has room in a report reads back.
 -- Assumes nothing.
+use Rattle.std.specs.Prelude.{Option, Some, None}
 use mathlib.Core.Path.{◌≡◌, refl, sym, ap, ap₂, ◌∙◌}
 use mathlib.Core.Bool.{true, ◌&&◌, false≢true}
 use mathlib.Core.List.{List, [], ◌∷◌, ◌++◌}
@@ -22,21 +23,21 @@ use Rattle.blocks.specs.Blocks.{first_place, block_count}
 use Rattle.blocks.specs.Form.{blocks_most}
 use Rattle.reports.specs.Source.{failure, dump_head, check_head}
 use Rattle.contents.specs.declared.Kind.{Kind}
-use Rattle.contents.specs.declared.Kind.TheVariants.{Acceptance, Failure, Completion, Dump, Check, Connection, Unknown}
+use Rattle.contents.specs.declared.Kind.TheVariants.{Acceptance, Failure, Completion, Dump, Check, Connection}
 use Rattle.contents.specs.Kinds.{service_kind, memory_kind, kind_of, is_known, type_of, subtype_of}
-use Rattle.contents.specs.Source.{dump_head_size, entry_size, entries_in, lengths_right_of, dump_formed, check_formed, formed, contents_in}
-use Rattle.contents.specs.Told.{Told, acceptance, refusal, completion, dump, check, connection, nothing, kind_told, entries_laid, source_of, Fits, told_by}
+use Rattle.contents.specs.Source.{dump_head_size, entry_size, entries_in, lengths_right_of, dump_formed, check_formed, formed_if, contents_if}
+use Rattle.contents.specs.Told.{Told, acceptance, refusal, completion, dump, check, connection, nothing, kind_told, entries_laid, source_of, Fits, told_if}
 use Rattle.contents.proofs.Numbers.{pair_octets, read16, entries_length, entries_again, entries_fit, entries_read, entries_right, laid-length}
 
 -- What source data of a kind tells.
-abbrev pub told_from : Kind → List ℕ → Told
-told_from Acceptance s = acceptance (word16 s 0) (word16 s 2)
-told_from Failure s = refusal (word16 s 0) (word16 s 2) (word16 s 4) (word16 s 6)
-told_from Completion s = completion (word16 s 0) (word16 s 2)
-told_from Dump s = dump (octet s 0) (word32 s 2) (word16 s 6) (drop dump_head_size s)
-told_from Check s = check (octet s 0) (entries_in (block_count s) (drop first_place s))
-told_from Connection s = connection
-told_from Unknown s = nothing
+abbrev pub told_from : Option Kind → List ℕ → Told
+told_from (Some Acceptance) s = acceptance (word16 s 0) (word16 s 2)
+told_from (Some Failure) s = refusal (word16 s 0) (word16 s 2) (word16 s 4) (word16 s 6)
+told_from (Some Completion) s = completion (word16 s 0) (word16 s 2)
+told_from (Some Dump) s = dump (octet s 0) (word32 s 2) (word16 s 6) (drop dump_head_size s)
+told_from (Some Check) s = check (octet s 0) (entries_in (block_count s) (drop first_place s))
+told_from (Some Connection) s = connection
+told_from None s = nothing
 
 -- What right source data of (6,6) and of (6,10) keeps to.
 pub record DumpFacts (s : List ℕ) : Type 0 where
@@ -80,32 +81,32 @@ part_is f n h =
     ∙ sym (drop-drop n frame_head f)
 
 -- What the contents of a frame tell is what its source data tells.
-pub told-parts : (k : Kind) (f : List ℕ) → frame_head ≤ length f → formed k (drop frame_head f) ≡ true
-    → told_by f (contents_in k (drop frame_head f)) ≡ told_from k (drop frame_head f)
-told-parts Acceptance f h e = refl
-told-parts Failure f h e = refl
-told-parts Completion f h e = refl
-told-parts Dump f h e =
+pub told-parts : (k : Option Kind) (f : List ℕ) → frame_head ≤ length f → formed_if k (drop frame_head f) ≡ true
+    → told_if f (contents_if k (drop frame_head f)) ≡ told_from k (drop frame_head f)
+told-parts (Some Acceptance) f h e = refl
+told-parts (Some Failure) f h e = refl
+told-parts (Some Completion) f h e = refl
+told-parts (Some Dump) f h e =
     let s : List ℕ = drop frame_head f in
     let size : length s ≡ word16 s 6 * word_octets + dump_head_size = (dump_facts s e).size in
     ap (λ (w : List ℕ). dump (octet s 0) (word32 s 2) (word16 s 6) w) (part_is f dump_head_size (omega (arith, size, length-drop frame_head f)))
-told-parts Check f h e =
+told-parts (Some Check) f h e =
     let s : List ℕ = drop frame_head f in
     let size : length s ≡ block_count s * entry_size + first_place = (check_facts s e).size in
     ap (λ (w : List ℕ). check (octet s 0) (entries_in (block_count s) w)) (part_is f first_place (omega (arith, size, length-drop frame_head f)))
-told-parts Connection f h e = refl
-told-parts Unknown f h e = refl
+told-parts (Some Connection) f h e = refl
+told-parts None f h e = refl
 
 -- ---- what is right is the source data of what is read in it
 
-pub told_kind : (k : Kind) (s : List ℕ) → kind_told (told_from k s) ≡ k
-told_kind Acceptance s = refl
-told_kind Failure s = refl
-told_kind Completion s = refl
-told_kind Dump s = refl
-told_kind Check s = refl
-told_kind Connection s = refl
-told_kind Unknown s = refl
+pub told_kind : (k : Option Kind) (s : List ℕ) → kind_told (told_from k s) ≡ k
+told_kind (Some Acceptance) s = refl
+told_kind (Some Failure) s = refl
+told_kind (Some Completion) s = refl
+told_kind (Some Dump) s = refl
+told_kind (Some Check) s = refl
+told_kind (Some Connection) s = refl
+told_kind None s = refl
 
 echo_again : (s : List ℕ) → Octets s → length s ≡ 4 → octets16 (word16 s 0) ++ octets16 (word16 s 2) ≡ s
 unfolding run
@@ -132,22 +133,22 @@ check_again s o size =
     ∙ sym (run_drop s 0 2 (omega (arith, size)))
 
 -- Source data that is right for a kind is laid out again by what is read in it.
-pub source_again : (k : Kind) (s : List ℕ) → Octets s → formed k s ≡ true → source_of (told_from k s) ≡ s
-source_again Acceptance s o e = echo_again s o (eqb-true _ _ e)
-source_again Failure s o e = failure_again s o (eqb-true _ _ e)
-source_again Completion s o e = echo_again s o (eqb-true _ _ e)
-source_again Dump s o e = dump_again s o (dump_facts s e).one (omega (arith, (dump_facts s e).size))
-source_again Check s o e = check_again s o (check_facts s e).size
-source_again Connection [] o e = refl
-source_again Connection (x ∷ s) o e = absurd (omega (arith, eqb-true (length (x ∷ s)) 0 e))
-source_again Unknown s o e = absurd (false≢true e)
+pub source_again : (k : Option Kind) (s : List ℕ) → Octets s → formed_if k s ≡ true → source_of (told_from k s) ≡ s
+source_again (Some Acceptance) s o e = echo_again s o (eqb-true _ _ e)
+source_again (Some Failure) s o e = failure_again s o (eqb-true _ _ e)
+source_again (Some Completion) s o e = echo_again s o (eqb-true _ _ e)
+source_again (Some Dump) s o e = dump_again s o (dump_facts s e).one (omega (arith, (dump_facts s e).size))
+source_again (Some Check) s o e = check_again s o (check_facts s e).size
+source_again (Some Connection) [] o e = refl
+source_again (Some Connection) (x ∷ s) o e = absurd (omega (arith, eqb-true (length (x ∷ s)) 0 e))
+source_again None s o e = absurd (false≢true e)
 
 -- And it has room in a report.
-pub source_fits : (k : Kind) (s : List ℕ) → Octets s → formed k s ≡ true → Fits (told_from k s)
-source_fits Acceptance s o e = (word16_small s 0 o, word16_small s 2 o)
-source_fits Failure s o e = (word16_small s 0 o, word16_small s 2 o, word16_small s 4 o, word16_small s 6 o)
-source_fits Completion s o e = (word16_small s 0 o, word16_small s 2 o)
-source_fits Dump s o e =
+pub source_fits : (k : Option Kind) (s : List ℕ) → Octets s → formed_if k s ≡ true → Fits (told_from k s)
+source_fits (Some Acceptance) s o e = (word16_small s 0 o, word16_small s 2 o)
+source_fits (Some Failure) s o e = (word16_small s 0 o, word16_small s 2 o, word16_small s 4 o, word16_small s 6 o)
+source_fits (Some Completion) s o e = (word16_small s 0 o, word16_small s 2 o)
+source_fits (Some Dump) s o e =
     let f = dump_facts s e in
     record {
       id = o 0;
@@ -157,17 +158,17 @@ source_fits Dump s o e =
       filled = length-drop dump_head_size s ∙ omega (arith, f.size);
       octets = drop_octets dump_head_size s o;
     }
-source_fits Check s o e =
+source_fits (Some Check) s o e =
     let f = check_facts s e in
     let n : length (entries_in (block_count s) (drop first_place s)) ≡ block_count s = entries_length (block_count s) (drop first_place s) in
     (o 0, omega (arith, f.least, n), omega (arith, f.most, n), entries_fit (block_count s) (drop first_place s) (drop_octets first_place s o) f.lengths)
-source_fits Connection s o e = tt
-source_fits Unknown s o e = absurd (false≢true e)
+source_fits (Some Connection) s o e = tt
+source_fits None s o e = absurd (false≢true e)
 
 -- ---- what has room reads back
 
 -- Of what has room in a report: its source data is right for its kind.
-pub fits_formed : (t : Told) → Fits t → formed (kind_told t) (source_of t) ≡ true
+pub fits_formed : (t : Told) → Fits t → formed_if (kind_told t) (source_of t) ≡ true
 unfolding dump_formed check_formed
 fits_formed (acceptance packet control) f = refl
 fits_formed (refusal packet control code detail) f = refl
@@ -200,15 +201,15 @@ fits_told nothing f = absurd f
 -- ---- kinds
 
 -- The kind of the type and subtype of a kind is that kind.
-pub kind_again : (k : Kind) → kind_of (type_of k) (subtype_of k) ≡ k
+pub kind_again : (k : Option Kind) → kind_of (type_of k) (subtype_of k) ≡ k
 unfolding kind_of
-kind_again Acceptance = refl
-kind_again Failure = refl
-kind_again Completion = refl
-kind_again Dump = refl
-kind_again Check = refl
-kind_again Connection = refl
-kind_again Unknown = refl
+kind_again (Some Acceptance) = refl
+kind_again (Some Failure) = refl
+kind_again (Some Completion) = refl
+kind_again (Some Dump) = refl
+kind_again (Some Check) = refl
+kind_again (Some Connection) = refl
+kind_again None = refl
 
 service_type : (subtype : ℕ) → is_known (service_kind subtype) ≡ true → (type_of (service_kind subtype) ≡ 1) × (subtype_of (service_kind subtype) ≡ subtype)
 service_type subtype h =

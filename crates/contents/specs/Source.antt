@@ -1,5 +1,5 @@
 -- Document 01, "Service data", and document 02, wish 1, refusal 63: which source data each kind of report has, and what is read in it.
-use Rattle.std.specs.Prelude.{Bool, true, false, ◌&&◌, List, [], ◌∷◌, ℕ, zero, suc, ◌+◌, ◌*◌, length, drop, leb, eqb}
+use Rattle.std.specs.Prelude.{Bool, true, false, ◌&&◌, List, [], ◌∷◌, ℕ, zero, suc, ◌+◌, ◌*◌, length, drop, leb, eqb, Option, Some, None}
 use Rattle.octets.specs.Numbers.{octet, word16, word32}
 use Rattle.octets.specs.declared.copy.Span.{Span}
 use Rattle.tm.specs.Frame.{frame_head}
@@ -7,14 +7,14 @@ use Rattle.map.specs.Place.{word_octets, dump_words}
 use Rattle.blocks.specs.Blocks.{first_place, memory_id, block_count}
 use Rattle.blocks.specs.Form.{blocks_most}
 use Rattle.contents.specs.declared.Kind.{Kind}
-use Rattle.contents.specs.declared.Kind.TheVariants.{Acceptance, Failure, Completion, Dump, Check, Connection, Unknown}
+use Rattle.contents.specs.declared.Kind.TheVariants.{Acceptance, Failure, Completion, Dump, Check, Connection}
 use Rattle.contents.specs.declared.Echo.{Echo}
 use Rattle.contents.specs.declared.Failed.{Failed}
 use Rattle.contents.specs.declared.Dumped.{Dumped}
 use Rattle.contents.specs.declared.Checked.{Checked}
 use Rattle.contents.specs.declared.Entry.{Entry}
 use Rattle.contents.specs.declared.Contents.{Contents}
-use Rattle.contents.specs.declared.Contents.TheVariants.{Accepts, Refuses, Completes, Dumps, Checks, Connects, Nothing}
+use Rattle.contents.specs.declared.Contents.TheVariants.{Accepts, Refuses, Completes, Dumps, Checks, Connects}
 
 -- How many octets a TC's packet ID and sequence control are, and those with code and detail.
 abbrev pub echo_size : ℕ
@@ -72,7 +72,11 @@ formed Completion s = eqb (length s) echo_size
 formed Dump s = dump_formed s
 formed Check s = check_formed s
 formed Connection s = eqb (length s) 0
-formed Unknown s = false
+
+-- The source data of a kind, if there is one.
+abbrev pub formed_if : Option Kind → List ℕ → Bool
+formed_if (Some k) s = formed k s
+formed_if None s = false
 
 -- ---- what is read in it
 
@@ -104,4 +108,8 @@ contents_in Completion s = Completes (echo_in s)
 contents_in Dump s = Dumps (dumped_in s)
 contents_in Check s = Checks (checked_in s)
 contents_in Connection s = Connects
-contents_in Unknown s = Nothing
+
+-- What the source data of a kind tells, if there is one.
+abbrev pub contents_if : Option Kind → List ℕ → Option Contents
+contents_if (Some k) s = Some (contents_in k s)
+contents_if None s = None

@@ -1,5 +1,5 @@
 -- What a report tells as fields, words and entries; and the report that tells it, by the layouts of document 01.
-use Rattle.std.specs.Prelude.{◌≡◌, List, [], ◌∷◌, ◌++◌, ℕ, ◌*◌, ◌≤◌, ◌<◌, length}
+use Rattle.std.specs.Prelude.{◌≡◌, List, [], ◌∷◌, ◌++◌, ℕ, ◌*◌, ◌≤◌, ◌<◌, length, Option, Some, None}
 use Rattle.laws.specs.Each.{Each}
 use Rattle.octets.specs.Numbers.{Octets, octets16}
 use Rattle.octets.specs.Copy.{placed}
@@ -8,10 +8,10 @@ use Rattle.map.specs.Place.{word_octets, dump_words}
 use Rattle.blocks.specs.Form.{blocks_most}
 use Rattle.reports.specs.Source.{failure, dump_head, check_head, check_entry}
 use Rattle.contents.specs.declared.Kind.{Kind}
-use Rattle.contents.specs.declared.Kind.TheVariants.{Acceptance, Failure, Completion, Dump, Check, Connection, Unknown}
+use Rattle.contents.specs.declared.Kind.TheVariants.{Acceptance, Failure, Completion, Dump, Check, Connection}
 use Rattle.contents.specs.declared.Entry.{Entry}
 use Rattle.contents.specs.declared.Contents.{Contents}
-use Rattle.contents.specs.declared.Contents.TheVariants.{Accepts, Refuses, Completes, Dumps, Checks, Connects, Nothing}
+use Rattle.contents.specs.declared.Contents.TheVariants.{Accepts, Refuses, Completes, Dumps, Checks, Connects}
 use Rattle.contents.specs.Kinds.{type_of, subtype_of}
 use Rattle.contents.specs.Source.{entries_in}
 
@@ -25,15 +25,15 @@ pub data Told : Type 0 where
   connection : Told
   nothing : Told
 
--- Its kind.
-abbrev pub kind_told : Told → Kind
-kind_told (acceptance packet control) = Acceptance
-kind_told (refusal packet control code detail) = Failure
-kind_told (completion packet control) = Completion
-kind_told (dump memory start long words) = Dump
-kind_told (check memory entries) = Check
-kind_told connection = Connection
-kind_told nothing = Unknown
+-- Its kind, if it has one.
+abbrev pub kind_told : Told → Option Kind
+kind_told (acceptance packet control) = Some Acceptance
+kind_told (refusal packet control code detail) = Some Failure
+kind_told (completion packet control) = Some Completion
+kind_told (dump memory start long words) = Some Dump
+kind_told (check memory entries) = Some Check
+kind_told connection = Some Connection
+kind_told nothing = None
 
 -- The entries of some blocks, one behind another.
 unfoldable pub entries_laid : List Entry → List ℕ
@@ -98,4 +98,8 @@ told_by f (Completes e) = completion e.packet e.control
 told_by f (Dumps d) = dump d.memory d.start d.length (placed d.words f)
 told_by f (Checks c) = check c.memory (entries_in c.blocks (placed c.entries f))
 told_by f Connects = connection
-told_by f Nothing = nothing
+
+-- What they tell, if there are any.
+abbrev pub told_if : List ℕ → Option Contents → Told
+told_if f (Some c) = told_by f c
+told_if f None = nothing

@@ -3,7 +3,7 @@
 
 ghost use Rattle.std.specs.Prelude.{◌≡◌, ◌+◌, ◌*◌, ◌≤◌};
 ghost use Rattle.map.specs.Place.{word_octets};
-ghost use Rattle.contents.specs.Kinds.{service_kind, memory_kind, kind_of, is_known};
+ghost use Rattle.contents.specs.Kinds.{kind_of};
 ghost use Rattle.contents.specs.Source.{dump_head_size, entry_at, lengths_right_of, dump_formed, check_formed, formed, echo_in, failed_in, part_behind, dumped_in, checked_in, contents_in};
 
 use octets::copy::Span;
@@ -23,8 +23,6 @@ pub enum Kind {
     Check,
     // (17,2)
     Connection,
-    // Any other type and subtype.
-    Unknown,
 }
 
 // What a report of service 1 repeats of a TC: its packet ID and sequence control.
@@ -67,7 +65,7 @@ pub struct Entry {
     pub crc: u16,
 }
 
-// What a frame tells, by its kind; of one that is refused nothing.
+// What a frame tells, by its kind.
 #[derive(Clone, Copy)]
 pub enum Contents {
     Accepts(Echo),
@@ -76,7 +74,6 @@ pub enum Contents {
     Dumps(Dumped),
     Checks(Checked),
     Connects,
-    Nothing,
 }
 
 // The services that report.
@@ -96,60 +93,19 @@ const DUMP_HEAD: usize = 8;
 
 pub const ENTRY: usize = 8;
 
-// The kind of the reports of service 1.
-fn service_kind(subtype: u8) -> Kind
-    ensures { result ≡ service_kind subtype }
-{
-    match subtype {
-        1 => Kind::Acceptance,
-        2 => Kind::Failure,
-        7 => Kind::Completion,
-        _ => Kind::Unknown,
-    }
-}
-
-// The kind of the reports of service 6.
-fn memory_kind(subtype: u8) -> Kind
-    ensures { result ≡ memory_kind subtype }
-{
-    match subtype {
-        6 => Kind::Dump,
-        10 => Kind::Check,
-        _ => Kind::Unknown,
-    }
-}
-
-// The kind of the reports of a type and subtype.
+// The kind of the reports of a type and subtype, if they are one of the six.
 #[tactic(auto, unfolding(crate::specs::Kinds::kind_of))]
-pub fn kind_of(kind: u8, subtype: u8) -> Kind
+pub fn kind_of(kind: u8, subtype: u8) -> Option<Kind>
     ensures { result ≡ kind_of kind subtype }
 {
-    match kind {
-        REPORTS => service_kind(subtype),
-        MEMORY => memory_kind(subtype),
-        CONNECTION => {
-            if subtype == 2 {
-                Kind::Connection
-            } else {
-                Kind::Unknown
-            }
-        }
-        _ => Kind::Unknown,
-    }
-}
-
-// Whether a kind is one of the six.
-pub fn is_known(kind: Kind) -> bool
-    ensures { result ≡ is_known kind }
-{
-    match kind {
-        Kind::Acceptance => true,
-        Kind::Failure => true,
-        Kind::Completion => true,
-        Kind::Dump => true,
-        Kind::Check => true,
-        Kind::Connection => true,
-        Kind::Unknown => false,
+    match (kind, subtype) {
+        (REPORTS, 1) => Some(Kind::Acceptance),
+        (REPORTS, 2) => Some(Kind::Failure),
+        (REPORTS, 7) => Some(Kind::Completion),
+        (MEMORY, 6) => Some(Kind::Dump),
+        (MEMORY, 10) => Some(Kind::Check),
+        (CONNECTION, 2) => Some(Kind::Connection),
+        _ => None,
     }
 }
 
@@ -157,7 +113,7 @@ pub fn is_known(kind: Kind) -> bool
 pub fn entry_at(entries: &[u8], number: u8) -> Entry
     ensures { result ≡ entry_at entries.now number }
 {
-    let from = octets::copy::behind(entries, (number as usize) * ENTRY);
+    let from = octets::copy::behind(entries, usize::from(number) * ENTRY);
     Entry {
         start: octets::numbers::word32_at(from, 0),
         length: octets::numbers::word16_at(from, 4),
@@ -169,13 +125,7 @@ pub fn entry_at(entries: &[u8], number: u8) -> Entry
 fn lengths_right(blocks: u8, entries: &[u8]) -> bool
     ensures { result ≡ lengths_right_of blocks entries.now }
 {
-    if blocks == 0 {
-        return true;
-    }
-    if octets::numbers::word16_at(entries, 4) == 0 {
-        return false;
-    }
-    lengths_right(blocks - 1, octets::copy::behind(entries, ENTRY))
+    (0..blocks).all(|number| 1 <= entry_at(entries, number).length)
 }
 
 // How many octets the source data of (6,6) is, with so many words.
@@ -183,7 +133,7 @@ fn dump_size(words: u16) -> usize
     ensures { result ≡ words * word_octets + dump_head_size }
 {
     let octets = map::place::word_octets() as usize;
-    (words as usize) * octets + DUMP_HEAD
+    usize::from(words) * octets + DUMP_HEAD
 }
 
 // Whether source data is that of (6,6): the octet 1, a length of 1 to 240 words, and exactly the words.
@@ -191,17 +141,11 @@ fn dump_size(words: u16) -> usize
 fn dump_formed(source: &[u8]) -> bool
     ensures { result ≡ dump_formed source.now }
 {
-    if octets::numbers::octet_at(source, 1) != 1 {
-        return false;
-    }
     let words = octets::numbers::word16_at(source, 6);
-    if words == 0 {
-        return false;
-    }
-    if requests::DUMP_MOST < words {
-        return false;
-    }
-    source.len() == dump_size(words)
+    octets::numbers::octet_at(source, 1) == 1
+        && 1 <= words
+        && words <= requests::DUMP_MOST
+        && source.len() == dump_size(words)
 }
 
 // Whether source data is that of (6,10): 1 to 8 blocks, exactly their entries, and no length of 0.
@@ -210,16 +154,10 @@ fn check_formed(source: &[u8]) -> bool
     ensures { result ≡ check_formed source.now }
 {
     let blocks = octets::numbers::one(source, 1);
-    if blocks == 0 {
-        return false;
-    }
-    if blocks::BLOCKS_MOST < (blocks as u16) {
-        return false;
-    }
-    if source.len() != (blocks as usize) * ENTRY + blocks::FIRST {
-        return false;
-    }
-    lengths_right(blocks, octets::copy::behind(source, blocks::FIRST))
+    1 <= blocks
+        && u16::from(blocks) <= blocks::BLOCKS_MOST
+        && source.len() == usize::from(blocks) * ENTRY + blocks::FIRST
+        && lengths_right(blocks, octets::copy::behind(source, blocks::FIRST))
 }
 
 // Whether source data is that of a kind of report.
@@ -232,8 +170,7 @@ pub fn formed(kind: Kind, source: &[u8]) -> bool
         Kind::Completion => source.len() == ECHO,
         Kind::Dump => dump_formed(source),
         Kind::Check => check_formed(source),
-        Kind::Connection => source.len() == 0,
-        Kind::Unknown => false,
+        Kind::Connection => source.is_empty(),
     }
 }
 
@@ -303,6 +240,5 @@ pub fn read(kind: Kind, source: &[u8]) -> Contents
         Kind::Dump => Contents::Dumps(dumped_in(source)),
         Kind::Check => Contents::Checks(checked_in(source)),
         Kind::Connection => Contents::Connects,
-        Kind::Unknown => Contents::Nothing,
     }
 }

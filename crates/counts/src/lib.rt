@@ -5,7 +5,7 @@ ghost use Rattle.std.specs.Prelude.{◌≡◌};
 ghost use Rattle.counts.specs.Counts.{no_counts, counts_in, next_count, category_of, count_for, counted, in_range};
 
 // A count for each category.
-#[derive(Clone, Copy)]
+#[derive(Clone, Copy, Default)]
 pub struct Counts {
     // Of category 1: service 1.
     pub reports: u16,
@@ -28,10 +28,7 @@ const SERVICES: u16 = 9;
 pub fn none() -> Counts
     ensures { result ≡ no_counts }
 {
-    Counts {
-        reports: 0,
-        services: 0,
-    }
+    Counts::default()
 }
 
 // The counts that some octets state, category by category; octets past the end count as 0.
@@ -56,7 +53,7 @@ pub fn category(kind: u8) -> u16
 pub fn next_count(count: u16) -> u16
     ensures { result ≡ next_count count }
 {
-    std::num::wrapping_add_u16(count, 1) % COUNTS
+    count.wrapping_add(1) % COUNTS
 }
 
 // Whether every count has 14 bits.
@@ -64,10 +61,7 @@ pub fn next_count(count: u16) -> u16
 pub fn in_range(counts: Counts) -> bool
     ensures { result ≡ in_range counts }
 {
-    if COUNTS <= counts.reports {
-        return false;
-    }
-    counts.services < COUNTS
+    counts.reports < COUNTS && counts.services < COUNTS
 }
 
 // The count that the next report of a service is stamped with.
@@ -90,12 +84,12 @@ pub fn counted(counts: Counts, kind: u8) -> Counts
     if category(kind) == REPORTS {
         Counts {
             reports: next_count(counts.reports),
-            services: counts.services,
+            ..counts
         }
     } else {
         Counts {
-            reports: counts.reports,
             services: next_count(counts.services),
+            ..counts
         }
     }
 }

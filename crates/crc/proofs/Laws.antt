@@ -3,14 +3,14 @@
 use mathlib.Core.Path.{◌≡◌, refl, sym, ap, ap₂, ◌∙◌}
 use mathlib.Core.Bool.{Bool, true, false, cond, xor}
 use mathlib.Core.List.{List, [], ◌∷◌, ◌++◌}
-use Prim.Native.Nat.{ℕ, ◌+◌, ◌-◌, ◌*◌, ◌/◌, ◌%◌, ◌≤◌, ◌<◌}
-use native.Mathlib.Nat.{mod-eq_of_lt}
-use native.Mathlib.Numerals.{add-one}
+use Prim.Native.Nat.{ℕ, zero, suc, ◌+◌, ◌*◌, ◌/◌, ◌%◌, ◌<◌}
+use native.Mathlib.Nat.{mod-eq_of_lt, zero-mul, add-mul, suc-mul}
 use native.Mathlib.Omega.{arith}
 use lib.Bits.{bit_xor, xor_lt, xor_zero_r}
 use lib.Dec.{leb}
-use lib.ListN.{length, replicate, take, drop, get_or, take-append-drop, length-drop, drop_of_length-le}
-use lib.Seq.{drop-cons, drop-drop, take_all}
+use lib.ListN.{length, replicate, take, drop, get_or, take-append-drop}
+use lib.Seq.{drop-cons, drop-drop, take-add}
+use Rattle.std.specs.Simd.{first_chunks}
 use Rattle.crc.specs.Register.{generator, all_ones, bits_of, moved, take_bit, take_bits, crc_from, crc_of}
 use Rattle.crc.specs.Division.{plus, number_of, preset_of}
 use Rattle.crc.proofs.Polynomial.{plus_self, length-plus, number_of-append, number_of_zeros, number_of-plus, digits_of, length-digits_of, number_of-digits_of, number_of-bits_of, number_of-preset_of}
@@ -28,43 +28,36 @@ crc_from-append r (x ∷ xs) ys = crc_from-append (take_bits r (bits_of x)) xs y
 
 -- ---- a loop over octets
 
--- What a loop keeps that has come to the place i with r in the register: from the start all octets give what from r those left give.
-abbrev pub Left : ℕ → List ℕ → ℕ → ℕ → Type 0
-Left start xs r i = (i ≤ length xs) × (crc_from start xs ≡ crc_from r (drop i xs))
+-- What follows the first octets of a list is taken from where they left the register.
+pub crc_from_parted : (r : ℕ) (xs : List ℕ) (k : ℕ) → crc_from (crc_from r (take k xs)) (drop k xs) ≡ crc_from r xs
+crc_from_parted r xs k = sym (crc_from-append r (take k xs) (drop k xs)) ∙ ap (crc_from r) (take-append-drop k xs)
 
--- It takes some octets more.
-pub left_part : (start : ℕ) (xs : List ℕ) (r i n : ℕ) → Left start xs r i → i + n ≤ length xs
-    → Left start xs (crc_from r (take (i + n - i) (drop i xs))) (i + n)
-left_part start xs r i n left h = (h, left.1 ∙ parted)
-  where
-    m : ℕ
-    m = i + n - i
+-- The register after the first octets of a list, and after some more of them.
+crc_from_more : (r : ℕ) (xs : List ℕ) (i n : ℕ) → crc_from r (take (i + n) xs) ≡ crc_from (crc_from r (take i xs)) (take n (drop i xs))
+crc_from_more r xs i n = ap (crc_from r) (take-add i n xs) ∙ crc_from-append r (take i xs) (take n (drop i xs))
 
-    behind : i + m ≡ i + n
-    behind = omega arith
-
-    parted : crc_from r (drop i xs) ≡ crc_from (crc_from r (take m (drop i xs))) (drop (i + n) xs)
-    parted =
-        ap (crc_from r) (sym (take-append-drop m (drop i xs)))
-        ∙ crc_from-append r (take m (drop i xs)) (drop m (drop i xs))
-        ∙ ap (crc_from (crc_from r (take m (drop i xs)))) (drop-drop m i xs ∙ ap (λ (k : ℕ). drop k xs) behind)
-
--- It takes one.
-pub left_octet : (start : ℕ) (xs : List ℕ) (r i : ℕ) → Left start xs r i → i < length xs
-    → Left start xs (take_bits r (bits_of (get_or xs i 0))) (i + 1)
+-- After one more.
+pub crc_from_octet : (r : ℕ) (xs : List ℕ) (i : ℕ) → i < length xs
+    → crc_from r (take (i + 1) xs) ≡ take_bits (crc_from r (take i xs)) (bits_of (get_or xs i 0))
 unfolding crc_from
-left_octet start xs r i left h = (omega arith, rw add-one (rw (drop-cons xs i 0 h) at left.1))
+crc_from_octet r xs i h =
+    crc_from_more r xs i 1 ∙ ap (λ (s : List ℕ). crc_from (crc_from r (take i xs)) (take 1 s)) (drop-cons xs i 0 h)
 
--- It has all octets left to take.
-pub left_rest : (start : ℕ) (xs : List ℕ) (r i : ℕ) → Left start xs r i
-    → crc_from r (take (length xs - i) (drop i xs)) ≡ crc_from start xs
-left_rest start xs r i left =
-    ap (crc_from r) (take_all (length xs - i) (drop i xs) (omega (arith, length-drop i xs))) ∙ sym left.1
+-- The chunk of n octets at a place is what the list has there.
+chunk_is : (n m : ℕ) (xs : List ℕ) (i : ℕ) → i < m → get_or (first_chunks n m xs) i [] ≡ take n (drop (i * n) xs)
+chunk_is n zero xs i h = absurd (omega arith)
+chunk_is n (suc m) xs zero h = ap (λ (k : ℕ). take n (drop k xs)) (sym (zero-mul n))
+chunk_is n (suc m) xs (suc i) h =
+    chunk_is n m (drop n xs) i (omega arith)
+    ∙ ap (take n) (drop-drop (i * n) n xs ∙ ap (λ (k : ℕ). drop k xs) (omega (arith, suc-mul i n)))
 
--- It has taken all.
-pub left_none : (start : ℕ) (xs : List ℕ) (r i : ℕ) → Left start xs r i → length xs ≤ i → r ≡ crc_from start xs
-unfolding crc_from
-left_none start xs r i left h = sym (rw (drop_of_length-le xs {i = i} h) at left.1)
+-- After one more chunk.
+pub crc_from_chunk : (r : ℕ) (xs : List ℕ) (n m i : ℕ) → i < m
+    → crc_from r (take ((i + 1) * n) xs) ≡ crc_from (crc_from r (take (i * n) xs)) (get_or (first_chunks n m xs) i [])
+crc_from_chunk r xs n m i h =
+    ap (λ (k : ℕ). crc_from r (take k xs)) (omega (arith, add-mul i 1 n))
+    ∙ crc_from_more r xs (i * n) n
+    ∙ ap (crc_from (crc_from r (take (i * n) xs))) (sym (chunk_is n m xs i h))
 
 -- ---- the register
 

@@ -26,14 +26,14 @@ top_plus x y =
     bottom n = omega arith
 
 -- The register after an octet is made of what its high octet and the one that comes leave together, and of its low octet, which moves up.
-pub take_bits-leaves : (r x : ℕ) → r < 65536 → x < 256
-    → take_bits r (bits_of x) ≡ bit_xor (leaves 0 (bit_xor (r / 256) x)) (r % 256 * 256)
+pub take_bits_leaves : (r x : ℕ) → r < 65536 → x < 256
+    → take_bits r (bits_of x) ≡ bit_xor (leaves 0 (bit_xor (r / 256) x)) (r * 256 % 65536)
 unfolding crc_from plus xor
-take_bits-leaves r x h k =
+take_bits_leaves r x h k =
     take_bits-octet r x h k
     ∙ ap (λ (n : ℕ). take_bits n zeros) parted
     ∙ take_bits-plus (y * 256) l zeros zeros (omega (arith, below)) (omega arith) refl
-    ∙ ap₂ bit_xor (sym (take_bits-octet 0 y (omega arith) below)) (take_bits_low l (omega arith))
+    ∙ ap₂ bit_xor (sym (take_bits-octet 0 y (omega arith) below)) (take_bits_low l (omega arith) ∙ omega arith)
   where
     l : ℕ
     l = r % 256
@@ -98,6 +98,9 @@ crc_from-added r x y xs h k j = ap (λ (n : ℕ). crc_from n xs) both
     a_lt : a < 65536
     a_lt = take_bits-lt 0 (bits_of (bit_xor (r / 256) x)) (omega arith)
 
+    moved_up : r * 256 % 65536 ≡ l * 256
+    moved_up = omega arith
+
     low : take_bits (l * 256) (bits_of y) ≡ take_bits 0 (bits_of (bit_xor l y))
     low =
         take_bits-octet (l * 256) y (omega arith) j
@@ -106,7 +109,7 @@ crc_from-added r x y xs h k j = ap (λ (n : ℕ). crc_from n xs) both
 
     both : take_bits (take_bits r (bits_of x)) (bits_of y) ≡ take_bits a (bits_of (bit_xor l y))
     both =
-        ap (λ (n : ℕ). take_bits n (bits_of y)) (take_bits-leaves r x h k)
+        ap (λ (n : ℕ). take_bits n (bits_of y)) (take_bits_leaves r x h k ∙ ap (bit_xor a) moved_up)
         ∙ takes-plus a (l * 256) y a_lt (omega arith)
         ∙ ap (bit_xor (take_bits a (bits_of 0))) low
         ∙ sym (takes-plus a 0 (bit_xor l y) a_lt (omega arith))
@@ -152,16 +155,10 @@ right_from (v ∷ t) i e (suc k) h =
 
 -- As many entries as n tables have, each of which passes the test, are n tables.
 pub right_tables : (n : ℕ) (t : List ℕ) → length t ≡ n * 256 → right 0 t ≡ true → Tables n t
-unfolding Tables
-right_tables n t l e k x h b = right_from t 0 e (k * 256 + x) (omega arith) ∙ ap₂ leaves table octet
+right_tables n t l e = record { entries_are = entry }
   where
-    table : (0 + (k * 256 + x)) / 256 ≡ k
-    table = omega arith
-
-    octet : (0 + (k * 256 + x)) % 256 ≡ x
-    octet = omega arith
-
--- The entry of an octet with k octets behind it.
-pub tables_at : (n : ℕ) (t : List ℕ) (k x : ℕ) → Tables n t → k < n → x < 256 → get_or t (k * 256 + x) 0 ≡ leaves k x
-unfolding Tables
-tables_at n t k x right h b = right k x h b
+    entry : (k x : ℕ) → k < n → x < 256 → get_or t (k * 256 + x) 0 ≡ leaves k x
+    entry k x h b =
+        let table : (0 + (k * 256 + x)) / 256 ≡ k = omega arith in
+        let octet : (0 + (k * 256 + x)) % 256 ≡ x = omega arith in
+        right_from t 0 e (k * 256 + x) (omega arith) ∙ ap₂ leaves table octet

@@ -7,5 +7,5 @@ abbrev pub leaves : ℕ → ℕ → ℕ
 leaves k x = crc_from 0 (x ∷ replicate k 0)
 
 -- A list is n tables of 256 entries, one behind another: the entry of an octet with k octets behind it stands in table k, counted from 0, and is what the octet leaves.
-unfoldable pub Tables : ℕ → List ℕ → Type 0
-Tables n t = (k x : ℕ) → k < n → x < 256 → get_or t (k * 256 + x) 0 ≡ leaves k x
+pub record Tables (n : ℕ) (t : List ℕ) : Type 0 where
+  pub entries_are : (k x : ℕ) → k < n → x < 256 → get_or t (k * 256 + x) 0 ≡ leaves k x

@@ -3,11 +3,10 @@
 
 mod tables;
 
-ghost use Rattle.std.specs.Prelude.{◌≡◌, ◌<◌, length};
+ghost use Rattle.std.specs.Prelude.{◌≡◌};
 ghost use Rattle.crc.specs.Register.{bits_of, take_bits, crc_from};
-ghost use Rattle.crc.specs.Tables.{leaves, Tables};
 
-use tables::{ENTRIES, OCTETS, TURN};
+use tables::{Lookup, TURN};
 
 // What the CRC of a packet or of a block starts from.
 pub const ALL_ONES: u16 = 0xFFFF;
@@ -16,65 +15,54 @@ pub const ALL_ONES: u16 = 0xFFFF;
 pub fn crc(start: u16, octets: &[u8]) -> u16
     ensures { result ≡ crc_from start octets.now }
 {
-    let tables = tables::all();
-    in_turns(&tables, start, octets)
+    Lookup::new().in_turns(start, octets)
 }
 
-// The CRC by the tables: one turn after another, and then the octets left over.
-fn in_turns(tables: &[u16; ENTRIES], start: u16, octets: &[u8]) -> u16
-    requires { Tables 4 tables.now }
-    ensures { result ≡ crc_from start octets.now }
-{
-    let mut register = start;
-    let mut i = 0;
-    while octets.len() - i >= TURN {
-        register = take_turn(tables, register, &octets[i..i + TURN]);
-        i += TURN;
+impl Lookup {
+    // The CRC by the tables: one turn after another, and then the octets left over.
+    #[tactic(auto, using(crate::proofs::Laws::crc_from_chunk, crate::proofs::Laws::crc_from_parted), unfolding(crate::specs::Register::crc_from))]
+    fn in_turns(&self, start: u16, octets: &[u8]) -> u16
+        ensures { result ≡ crc_from start octets.now }
+    {
+        let mut register = start;
+        let (turns, rest) = octets.as_chunks::<TURN>();
+        for turn in turns {
+            register = self.take_turn(register, turn);
+        }
+        self.one_by_one(register, rest)
     }
-    one_by_one(tables, register, &octets[i..])
-}
 
-// The CRC by the first table: one octet after another.
-fn one_by_one(tables: &[u16; ENTRIES], start: u16, octets: &[u8]) -> u16
-    requires { Tables 4 tables.now }
-    ensures { result ≡ crc_from start octets.now }
-{
-    let mut register = start;
-    let mut i = 0;
-    while i < octets.len() {
-        register = take_octet(tables, register, octets[i]);
-        i += 1;
+    // The CRC by the first table: one octet after another.
+    #[tactic(auto, using(crate::proofs::Laws::crc_from_octet), unfolding(crate::specs::Register::crc_from))]
+    fn one_by_one(&self, start: u16, octets: &[u8]) -> u16
+        ensures { result ≡ crc_from start octets.now }
+    {
+        let mut register = start;
+        for octet in octets {
+            register = self.take_octet(register, *octet);
+        }
+        register // what the next part goes on from
     }
-    register // what the next part goes on from
-}
 
-// The register after the octets of a turn: what each of them leaves, once the register has been added to the first two.
-fn take_turn(tables: &[u16; ENTRIES], register: u16, octets: &[u8]) -> u16
-    requires { (length octets.now ≡ 4) × Tables 4 tables.now }
-    ensures { result ≡ crc_from register octets.now }
-{
-    let high = (register >> 8) as u8;
-    let low = (register % 256) as u8;
-    let first = entry(tables, 3, high ^ octets[0]);
-    let second = entry(tables, 2, low ^ octets[1]);
-    let third = entry(tables, 1, octets[2]);
-    let fourth = entry(tables, 0, octets[3]);
-    first ^ (second ^ (third ^ fourth))
-}
+    // The register after the octets of a turn: what each of them leaves, once the register has been added to the first two.
+    #[tactic(auto, using(crate::proofs::Leaves::crc_from_four))]
+    fn take_turn(&self, register: u16, octets: &[u8; TURN]) -> u16
+        ensures { result ≡ crc_from register octets.now }
+    {
+        let [high, low] = register.to_be_bytes();
+        let first = self.entry(3, high ^ octets[0]);
+        let second = self.entry(2, low ^ octets[1]);
+        let third = self.entry(1, octets[2]);
+        let fourth = self.entry(0, octets[3]);
+        first ^ (second ^ (third ^ fourth))
+    }
 
-// The register after one octet: what its high octet and the one that comes leave together, and its low octet moved up.
-fn take_octet(tables: &[u16; ENTRIES], register: u16, octet: u8) -> u16
-    requires { Tables 4 tables.now }
-    ensures { result ≡ take_bits register (bits_of octet) }
-{
-    let high = (register >> 8) as u8;
-    entry(tables, 0, high ^ octet) ^ (register << 8)
-}
-
-// What an octet leaves with so many octets behind it.
-fn entry(tables: &[u16; ENTRIES], behind: usize, octet: u8) -> u16
-    requires { (behind < 4) × Tables 4 tables.now }
-    ensures { result ≡ leaves behind octet }
-{
-    tables[behind * OCTETS + (octet as usize)]
+    // The register after one octet: what its high octet and the one that comes leave together, and its low octet moved up.
+    #[tactic(auto, using(crate::proofs::Leaves::take_bits_leaves))]
+    fn take_octet(&self, register: u16, octet: u8) -> u16
+        ensures { result ≡ take_bits register (bits_of octet) }
+    {
+        let [high, _] = register.to_be_bytes();
+        self.entry(0, high ^ octet) ^ (register << 8)
+    }
 }

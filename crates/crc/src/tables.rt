@@ -1,5 +1,6 @@
 // The tables that the CRC is worked out by: document 02, wish 9.
-ghost use Rattle.crc.specs.Tables.{Tables};
+ghost use Rattle.std.specs.Prelude.{◌≡◌, ◌<◌};
+ghost use Rattle.crc.specs.Tables.{leaves, Tables};
 
 // How many tables there are: as many octets are taken in one turn.
 pub const TURN: usize = 4;
@@ -1039,8 +1040,23 @@ const TABLES: [u16; ENTRIES] = [
 ];
 
 // The tables: every entry is what its octet leaves.
-pub fn all() -> [u16; ENTRIES]
-    ensures { Tables 4 result }
-{
-    TABLES
+#[derive(Drop)]
+pub struct Lookup {
+    entries: [u16; ENTRIES],
+    ghost right: { Tables 4 entries },
+}
+
+impl Lookup {
+    // The tables that stand above.
+    pub fn new() -> Self {
+        Lookup { entries: TABLES }
+    }
+
+    // What an octet leaves with so many octets behind it.
+    pub fn entry(&self, behind: usize, octet: u8) -> u16
+        requires { behind < 4 }
+        ensures { result ≡ leaves behind octet }
+    {
+        self.entries[behind * OCTETS + usize::from(octet)]
+    }
 }

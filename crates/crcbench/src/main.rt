@@ -16,11 +16,7 @@ fn main(rt: HostRuntime) -> io::Result<()> {
 }
 
 // The CRC of the octets takes the place of the first two.
-fn turn(octets: &mut [u8]) {
-    if octets.len() < 2 {
-        return;
-    }
+fn turn(octets: &mut [u8; LENGTH]) {
     let value = crc::crc(crc::ALL_ONES, octets);
-    octets[0] = (value / octets::numbers::VALUES) as u8;
-    octets[1] = (value % octets::numbers::VALUES) as u8;
+    octets[..2].copy_from_slice(&value.to_be_bytes());
 }

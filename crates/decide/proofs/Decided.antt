@@ -1,5 +1,6 @@
 -- What a verdict tells: of a packet that is answered with a frame, and of one that is accepted.
 -- Assumes nothing.
+use Rattle.std.specs.Prelude.{Some, None, Ok, Option}
 use mathlib.Core.Path.{◌≡◌, refl, sym, ap, subst, ◌∙◌}
 use mathlib.Core.Bool.{true, false, false≢true}
 use mathlib.Core.List.{List}
@@ -9,7 +10,6 @@ use lib.Dec.{leb}
 use borrow.Author.Tests.{leb-true, leb-false, eqb-true}
 use Rattle.laws.proofs.Tests.{by-test, halves}
 use Rattle.fields.specs.Fields.{apid_of}
-use Rattle.checks.specs.declared.Verdict.TheVariants.{Accepted}
 use Rattle.checks.specs.Verdict.{is_accepted, silent}
 use Rattle.checks.specs.Table.{AllHold}
 use Rattle.checks.proofs.Table.{all_append}
@@ -19,17 +19,14 @@ use Rattle.reader.specs.Reader.{least_octets, reader_rows, judged, reading_of}
 use Rattle.reader.proofs.Judged.{judged-short}
 use Rattle.map.specs.declared.Area.{Area}
 use Rattle.map.specs.declared.Profile.{Profile}
-use Rattle.map.specs.declared.Found.{Found}
-use Rattle.map.specs.declared.Found.TheVariants.{At, Nothing}
 use Rattle.map.specs.Sound.{sound, store_allowed}
 use Rattle.blocks.specs.Blocks.{blocks_of}
 use Rattle.counts.specs.Counts.{in_range}
 use Rattle.decide.specs.declared.State.{State}
 use Rattle.requests.specs.declared.Action.{Action}
 use Rattle.requests.specs.declared.Request.TheVariants.{Memory, Connection}
-use Rattle.requests.specs.declared.Asked.{Asked}
-use Rattle.requests.specs.declared.Asked.TheVariants.{Known, Unknown}
-use Rattle.serving.specs.declared.Decision.{Decision}
+use Rattle.requests.specs.declared.Request.{Request}
+use Rattle.serving.specs.Decision.{Decision, verdict_of}
 use Rattle.requests.proofs.Found.{found_is}
 use Rattle.requests.specs.Request.{serves, offers, right_for, carried_by, area_named, outside_of}
 use Rattle.decide.specs.Table.{out_least, caller_right, caller_rows, rows, decided, decision_of}
@@ -59,9 +56,9 @@ pub record HeardFacts (p : Profile) (state : State) (octets room : ℕ) (packet 
 
 module _ (p : Profile) (state : State) (octets room : ℕ) (packet : List ℕ) where
   -- A decision that is silent is not one that is heard.
-  contradicts : {X : Type 0} (d : Decision) → silent d.verdict ≡ true → d ≡ decision_of p state octets room packet → silent (decided p state octets room packet) ≡ false → X
+  contradicts : {X : Type 0} (d : Decision) → silent (verdict_of d) ≡ true → d ≡ decision_of p state octets room packet → silent (decided p state octets room packet) ≡ false → X
   contradicts d quiet is heard =
-      absurd (false≢true (sym heard ∙ ap silent (sym (decision_decided p state octets room packet) ∙ ap (λ (x : Decision). x.verdict) (sym is)) ∙ quiet))
+      absurd (false≢true (sym heard ∙ ap silent (sym (decision_decided p state octets room packet) ∙ ap verdict_of (sym is)) ∙ quiet))
 
   pub heard_facts : silent (decided p state octets room packet) ≡ false → HeardFacts p state octets room packet
   unfolding reading_of
@@ -74,7 +71,7 @@ module _ (p : Profile) (state : State) (octets room : ℕ) (packet : List ℕ) w
       (λ six. record { out = leb-true _ _ long; six = leb-true _ _ six; caller = caller_facts p state octets right })
       (λ few.
       let short = judged-short packet (leb-false _ _ few) in
-      contradicts _ (ap silent short) (at_reader p packet (reading_of packet) refl (ap is_accepted short) ∙ sym (at_packet p state octets room packet (leb-true _ _ long) right)) heard))
+      contradicts _ refl (sym (at_packet p state octets room packet (leb-true _ _ long) right ∙ at_reader p packet (reading_of packet) _ refl short)) heard))
       (λ wrong. contradicts _ refl (sym (at_caller p state octets room packet (leb-true _ _ long) wrong)) heard))
       (λ less. contradicts _ refl (sym (at_buffer p state octets room packet (leb-false _ _ less))) heard)
 
@@ -84,7 +81,7 @@ module _ (p : Profile) (state : State) (octets room : ℕ) (packet : List ℕ) w
 pub record AcceptedFacts (p : Profile) (state : State) (octets room : ℕ) (packet : List ℕ) : Type 0 where
   pub out : out_least ≤ room
   pub caller : CallerFacts p state octets
-  pub judged : judged packet ≡ Accepted
+  pub judged : judged packet ≡ Ok tt
   pub apid : (fields_of packet).apid ≡ apid_of p.pid category
   pub served : serves p.flags (fields_of packet).kind ≡ true
   pub offered : offers p.flags (asked_by (fields_of packet)) ≡ true
@@ -112,7 +109,7 @@ accepted_facts p state octets room packet accepted =
 pub record MemoryFacts (p : Profile) (action : Action) (d : List ℕ) : Type 0 where
   pub formed : Formed action d
   pub area : Area
-  pub named : area_named p d ≡ At area
+  pub named : area_named p d ≡ Some area
   pub right : right_for area.rights action ≡ true
   pub inside : outside_of area (blocks_of (carried_by action) d) ≡ 0
 
@@ -124,17 +121,17 @@ memory_facts p action d all =
       formed = (all.0, all.1.0);
       area = found.0;
       named = found.1;
-      right = subst (λ (f : Found). has_right f action ≡ true) found.1 all.1.1.1.0;
-      inside = eqb-true _ _ (subst (λ (f : Found). all_inside f action d ≡ true) found.1 all.1.1.1.1.0);
+      right = subst (λ (f : Option Area). has_right f action ≡ true) found.1 all.1.1.1.0;
+      inside = eqb-true _ _ (subst (λ (f : Option Area). all_inside f action d ≡ true) found.1 all.1.1.1.1.0);
     }
 
 -- ---- the data of an accepted packet is well formed for its task
 
-formed_memory : (f : Found) (action : Action) (d : List ℕ) → Formed action d → FormedFor (memory_task f action) d
-formed_memory (At a) action d h = h
-formed_memory Nothing action d h = tt
+formed_memory : (f : Option Area) (action : Action) (d : List ℕ) → Formed action d → FormedFor (memory_task f action) d
+formed_memory (Some a) action d h = h
+formed_memory None action d h = tt
 
-pub formed_for : (p : Profile) (asked : Asked) (d : List ℕ) → AllHold (service_rows p asked d) → FormedFor (task_for p asked d) d
-formed_for p (Known (Memory action)) d all = formed_memory (area_named p d) action d (memory_facts p action d all).formed
-formed_for p (Known Connection) d all = tt
-formed_for p Unknown d all = tt
+pub formed_for : (p : Profile) (asked : Option Request) (d : List ℕ) → AllHold (service_rows p asked d) → FormedFor (task_for p asked d) d
+formed_for p (Some (Memory action)) d all = formed_memory (area_named p d) action d (memory_facts p action d all).formed
+formed_for p (Some Connection) d all = tt
+formed_for p None d all = tt

@@ -1,5 +1,6 @@
 -- The detail of every verdict on a packet of octets is a number of 16 bits.
 -- Assumes nothing.
+use Rattle.std.specs.Prelude.{Some, None, Option}
 use mathlib.Core.List.{List}
 use Prim.Native.Nat.{ℕ, ◌<◌}
 use native.Mathlib.Omega.{arith}
@@ -14,13 +15,11 @@ use Rattle.tc.specs.Layout.{fields_of, application_of}
 use Rattle.reader.specs.Reader.{reader_rows}
 use Rattle.reader.proofs.Details.{application_octets, FieldsSmall, fields_small, reader_details}
 use Rattle.map.specs.declared.Profile.{Profile}
-use Rattle.map.specs.declared.Found.{Found}
-use Rattle.map.specs.declared.Found.TheVariants.{At, Nothing}
+use Rattle.map.specs.declared.Area.{Area}
 use Rattle.blocks.proofs.Octets.{form_small}
 use Rattle.requests.specs.declared.Action.{Action}
 use Rattle.requests.specs.declared.Request.TheVariants.{Memory, Connection}
-use Rattle.requests.specs.declared.Asked.{Asked}
-use Rattle.requests.specs.declared.Asked.TheVariants.{Known, Unknown}
+use Rattle.requests.specs.declared.Request.{Request}
 use Rattle.requests.specs.Request.{carried_by, most_words, area_named}
 use Rattle.requests.proofs.Outside.{outside_small}
 use Rattle.decide.specs.declared.State.{State}
@@ -33,16 +32,16 @@ abbrev Small : Row Refusal → Type 0
 Small r = r.refusal.detail < 65536
 
 module _ (d : List ℕ) (octets : Octets d) where
-  number_small : (found : Found) (action : Action) → outside_number found action d < 65536
-  number_small (At a) action = outside_small a (carried_by action) d octets
-  number_small Nothing action = omega arith
+  number_small : (found : Option Area) (action : Action) → outside_number found action d < 65536
+  number_small (Some a) action = outside_small a (carried_by action) d octets
+  number_small None action = omega arith
 
-  service_small : (p : Profile) (asked : Asked) → Each Small (service_rows p asked d)
+  service_small : (p : Profile) (asked : Option Request) → Each Small (service_rows p asked d)
   unfolding memory_rows area_rows connection_rows
-  service_small p (Known (Memory action)) =
+  service_small p (Some (Memory action)) =
       (omega arith, (form_small d octets (carried_by action) (most_words action), (omega (arith, octets 0), (omega (arith, octets 0), (number_small (area_named p d) action, tt)))))
-  service_small p (Known Connection) = (omega arith, tt)
-  service_small p Unknown = tt
+  service_small p (Some Connection) = (omega arith, tt)
+  service_small p None = tt
 
 module _ (packet : List ℕ) (octets : Octets packet) where
   request_small : (p : Profile) → Each Small (request_rows p (fields_of packet) (application_of packet))

@@ -1,5 +1,6 @@
 -- The block that a refusal numbers, from what is read of the packet, and where it begins.
 -- Assumes nothing.
+use Rattle.std.specs.Prelude.{Option}
 use mathlib.Core.Path.{◌≡◌}
 use mathlib.Core.List.{List}
 use Prim.Native.Nat.{ℕ, ◌-◌, ◌≤◌}
@@ -13,13 +14,13 @@ use Rattle.tc.specs.Layout.{fields_of, data_span, application_of}
 use Rattle.blocks.specs.declared.Block.{Block}
 use Rattle.blocks.specs.Blocks.{block_behind}
 use Rattle.blocks.proofs.Behind.{behind_at}
-use Rattle.requests.specs.declared.Asked.{Asked}
+use Rattle.requests.specs.declared.Request.{Request}
 use Rattle.requests.specs.Request.{asked_for}
 use Rattle.addressing.specs.Requested.{asked_by}
 use Rattle.decide.specs.Octets.{carried_for, block_numbered}
 
 -- What is read, step by step, is the block.
-pub numbered : (p : List ℕ) (number : ℕ) (f : Fields) (asked : Asked) (carried others : ℕ) {application : List ℕ} {span : Span} {b : Block}
+pub numbered : (p : List ℕ) (number : ℕ) (f : Fields) (asked : Option Request) (carried others : ℕ) {application : List ℕ} {span : Span} {b : Block}
     → f ≡ fields_of p → asked ≡ asked_for f.kind f.subtype → application ≡ placed span p → span ≡ data_span p → carried ≡ carried_for asked → others ≡ number - 1
     → b ≡ block_behind carried application others → b ≡ block_numbered p number
 unfolding application_of

@@ -1,5 +1,5 @@
 -- Document 02, wish 5: "the first and last offset of its octets": the part of a packet that each check of the table looks at.
-use Rattle.std.specs.Prelude.{cond, List, ℕ, ◌+◌, ◌-◌, length, leb, eqb}
+use Rattle.std.specs.Prelude.{cond, List, ℕ, ◌+◌, ◌-◌, length, leb, eqb, Some, None, Option}
 use Rattle.octets.specs.declared.copy.Span.{Span}
 use Rattle.octets.specs.Copy.{nowhere}
 use Rattle.checks.specs.declared.Check.{Check}
@@ -9,8 +9,7 @@ use Rattle.tc.specs.Layout.{head_size, fields_of, data_span, application_of}
 use Rattle.blocks.specs.declared.Block.{Block}
 use Rattle.blocks.specs.Blocks.{header_size, block_behind}
 use Rattle.requests.specs.declared.Request.TheVariants.{Memory as Asks, Connection}
-use Rattle.requests.specs.declared.Asked.{Asked}
-use Rattle.requests.specs.declared.Asked.TheVariants.{Known, Unknown}
+use Rattle.requests.specs.declared.Request.{Request}
 use Rattle.requests.specs.Request.{carried_by}
 use Rattle.addressing.specs.Requested.{asked_by}
 
@@ -30,10 +29,10 @@ abbrev pub header_place : ℕ → ℕ
 header_place detail = cond (leb detail 3) 0 (cond (eqb detail 4) 2 6)
 
 -- How many octets of the application data a word of a block is, by what a packet asks for; only service 6 has blocks.
-abbrev pub carried_for : Asked → ℕ
-carried_for (Known (Asks action)) = carried_by action
-carried_for (Known Connection) = 0
-carried_for Unknown = 0
+abbrev pub carried_for : Option Request → ℕ
+carried_for (Some (Asks action)) = carried_by action
+carried_for (Some Connection) = 0
+carried_for None = 0
 
 -- The block of a packet with that number, from 1.
 abbrev pub block_numbered : List ℕ → ℕ → Block

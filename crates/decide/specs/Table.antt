@@ -2,7 +2,7 @@
 use Rattle.std.specs.Prelude.{Bool, ◌&&◌, List, [], ◌∷◌, ◌++◌, ℕ, leb}
 use Rattle.checks.specs.declared.Check.TheVariants.{Buffer, Caller}
 use Rattle.checks.specs.declared.Refusal.{Refusal}
-use Rattle.checks.specs.declared.Verdict.{Verdict}
+use Rattle.checks.specs.Verdict.{Verdict}
 use Rattle.checks.specs.Table.{Row}
 use Rattle.checks.specs.Verdict.{row, verdict_by}
 use Rattle.tc.specs.Layout.{fields_of, data_span, application_of}
@@ -12,8 +12,8 @@ use Rattle.map.specs.Sound.{sound, store_allowed}
 use Rattle.counts.specs.Counts.{in_range}
 use Rattle.decide.specs.declared.State.{State}
 use Rattle.serving.specs.declared.Task.{Task}
-use Rattle.serving.specs.declared.Decision.{Decision}
-use Rattle.serving.specs.Decision.{accepted_with, decided_by}
+use Rattle.serving.specs.declared.Work.{Work}
+use Rattle.serving.specs.Decision.{work, Decision, decided_by}
 use Rattle.addressing.specs.Requested.{task_for, asked_by, request_rows}
 
 -- ---- what the caller hands in
@@ -51,14 +51,14 @@ decided p state store out packet = verdict_by (rows p state store out packet)
 abbrev pub task_of : Profile → List ℕ → Task
 task_of p packet = task_for p (asked_by (fields_of packet)) (application_of packet)
 
--- The acceptance of a packet, with what was found on the way to it.
-abbrev pub accepting : Profile → List ℕ → Decision
-accepting p packet = accepted_with (task_of p packet) (fields_of packet).ack (data_span packet)
+-- The work of a packet that is accepted, with what was found on the way to acceptance.
+abbrev pub accepting : Profile → List ℕ → Work
+accepting p packet = work (task_of p packet) (fields_of packet).ack (data_span packet)
 
 -- The decision on a packet by the checks on the packet itself.
 unfoldable pub packet_decision : Profile → List ℕ → Decision
 packet_decision p packet = decided_by (accepting p packet) (packet_rows p packet)
 
--- The decision on a packet: the verdict, and what was found on the way to acceptance.
+-- The decision on a packet by all of the checks.
 unfoldable pub decision_of : Profile → State → ℕ → ℕ → List ℕ → Decision
 decision_of p state store out packet = decided_by (accepting p packet) (rows p state store out packet)

@@ -26,10 +26,10 @@ pub fn decide(profile: Profile, state: State, store: usize, out: usize, packet: 
     ensures { result ≡ decision_of profile state store out packet.now }
 {
     if out < OUT_LEAST {
-        return serving::refuse(Check::Buffer, 0);
+        return checks::refuse(Check::Buffer, 0);
     }
     if !caller_right(profile, state, store) {
-        return serving::refuse(Check::Caller, 0);
+        return checks::refuse(Check::Caller, 0);
     }
     decide_packet(profile, packet)
 }
@@ -40,10 +40,7 @@ pub fn decide_packet(profile: Profile, packet: &[u8]) -> Decision
     ensures { result ≡ packet_decision profile packet.now }
 {
     let reading = reader::read(packet);
-    let verdict = reading.verdict;
-    if !checks::accepted(verdict) {
-        return serving::refused(verdict);
-    }
+    reading.verdict?;
     addressing::judge_request(profile, reading.fields, reading.data, packet)
 }
 
@@ -52,11 +49,5 @@ pub fn decide_packet(profile: Profile, packet: &[u8]) -> Decision
 fn caller_right(profile: Profile, state: State, store: usize) -> bool
     ensures { result ≡ caller_right profile state store }
 {
-    if !sound::is_sound(profile, store) {
-        return false;
-    }
-    if !sound::store_allowed(store) {
-        return false;
-    }
-    counts::in_range(state.counts)
+    sound::is_sound(profile, store) && sound::store_allowed(store) && counts::in_range(state.counts)
 }

@@ -5,7 +5,7 @@ ghost use Rattle.decide.specs.Octets.{octets_at, header_place, carried_for, bloc
 use blocks::Block;
 use checks::{Check, Refusal};
 use octets::copy::Span;
-use requests::{Asked, Request};
+use requests::Request;
 
 // Where the length field stands, where the type with the subtype behind it, and where the application data.
 const LENGTH: u8 = 4;
@@ -44,10 +44,10 @@ pub fn octets_of(packet: &[u8], refusal: Refusal) -> Span
 fn octets_at(place: u8, count: u8) -> Span
     ensures { result ≡ octets_at place count }
 {
-    let from = place as usize;
+    let from = usize::from(place);
     Span {
         from,
-        to: from + (count as usize),
+        to: from + usize::from(count),
     }
 }
 
@@ -84,15 +84,13 @@ fn block_numbered(packet: &[u8], number: u16) -> Block
 }
 
 // How many octets of the application data a word of a block is, by what a packet asks for.
-fn carried_for(asked: Asked) -> u8
+fn carried_for(asked: Option<Request>) -> u8
     ensures { result ≡ carried_for asked }
 {
-    let Asked::Known(request) = asked else {
-        return 0;
-    };
-    match request {
-        Request::Memory(action) => requests::carried_by(action),
-        Request::Connection => 0,
+    match asked {
+        Some(Request::Memory(action)) => requests::carried_by(action),
+        Some(Request::Connection) => 0,
+        None => 0,
     }
 }
 
@@ -100,5 +98,5 @@ fn carried_for(asked: Asked) -> u8
 fn before(number: u16) -> u16
     ensures { result ≡ number - 1 }
 {
-    if number < 1 { 0 } else { number - 1 }
+    number.saturating_sub(1)
 }

@@ -1,5 +1,6 @@
 -- The first demand is met by the terminal, the reader and the writer of document 01.
 -- Assumes nothing.
+use Rattle.std.specs.Prelude.{Some, None, Option, Ok}
 use mathlib.Core.Path.{◌≡◌, refl, sym, ap, ◌∙◌}
 use mathlib.Core.Bool.{true, false, false≢true}
 use mathlib.Core.List.{List, [], append-nil}
@@ -19,8 +20,7 @@ use Rattle.checks.proofs.Verdicts.{first_refuses, all_accept, refused-first}
 use Rattle.tc.specs.Layout.{around, data_most, application_of}
 use Rattle.reader.specs.Reader.{reader_rows, judged, reading_of}
 use Rattle.writer.specs.declared.Order.{Order}
-use Rattle.writer.specs.declared.Written.{Written}
-use Rattle.writer.specs.declared.Written.TheVariants.{Packet}
+use Rattle.writer.specs.Writer.{Written}
 use Rattle.writer.specs.Writer.{written_number, fields_right, writer_rows, written_of, is_packet, buffer_after}
 use Rattle.map.specs.declared.Profile.{Profile}
 use Rattle.counts.specs.declared.Counts.{Counts}
@@ -28,8 +28,7 @@ use Rattle.counts.specs.Counts.{category_of, count_in}
 use Rattle.counts.proofs.Counting.{counted_report}
 use Rattle.tm.specs.Frame.{stamped}
 use Rattle.requests.specs.declared.Request.TheVariants.{Memory, Connection}
-use Rattle.requests.specs.declared.Asked.{Asked}
-use Rattle.requests.specs.declared.Asked.TheVariants.{Known, Unknown}
+use Rattle.requests.specs.declared.Request.{Request}
 use Rattle.decide.proofs.Decided.{accepted_facts}
 use Rattle.decide.specs.Table.{caller_rows, rows, decided}
 use Rattle.serving.specs.Services.{area_rows, memory_rows, connection_rows}
@@ -52,11 +51,11 @@ table_decides table = record {
 
 -- ---- the terminal
 
-service_numbers_lem : (p : Profile) (asked : Asked) (d : List ℕ) → numbers_of (service_rows p asked d) ≡ service_numbers asked
+service_numbers_lem : (p : Profile) (asked : Option Request) (d : List ℕ) → numbers_of (service_rows p asked d) ≡ service_numbers asked
 unfolding memory_rows area_rows connection_rows
-service_numbers_lem p (Known (Memory action)) d = refl
-service_numbers_lem p (Known Connection) d = refl
-service_numbers_lem p Unknown d = refl
+service_numbers_lem p (Some (Memory action)) d = refl
+service_numbers_lem p (Some Connection) d = refl
+service_numbers_lem p None d = refl
 
 -- The table has the numbers of document 01: a terminal whose table has 17 before 5 is ruled out.
 pub table_in_order : InOrder
@@ -141,7 +140,7 @@ module _ (o : Order) (data' buffer : List ℕ) where
   unfolding written_of writer_rows Rattle.checks.specs.Table.answer
   no_room h short full = rw (h, le-leb (length data') data_most short, lt-leb (length data' + around) (length buffer) full)
 
-  pub fits : Writable o data' buffer → answer ≡ Packet (length data' + around)
+  pub fits : Writable o data' buffer → answer ≡ Ok (length data' + around)
   unfolding written_of writer_rows Rattle.checks.specs.Table.answer
   fits w = rw (w.fields, le-leb (length data') data_most w.short, le-leb (length data' + around) (length buffer) w.room)
 

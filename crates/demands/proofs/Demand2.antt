@@ -1,5 +1,6 @@
 -- The second demand is met by the terminal, the reader and the writer of document 01.
 -- Assumes nothing.
+use Rattle.std.specs.Prelude.{Some, Option}
 use mathlib.Core.Path.{◌≡◌, refl, sym, ap, ap₂, subst, ◌∙◌}
 use mathlib.Core.Bool.{true}
 use mathlib.Core.Logic.{inl, inr}
@@ -16,7 +17,6 @@ use Rattle.checks.specs.Verdict.{is_accepted}
 use Rattle.checks.specs.Table.{AllHold}
 use Rattle.tc.specs.Layout.{application_of}
 use Rattle.map.specs.declared.Area.{Area}
-use Rattle.map.specs.declared.Found.TheVariants.{At}
 use Rattle.map.specs.Place.{word_octets, inside, octet_at, octets_of, stored_at}
 use Rattle.map.specs.Sound.{area_sound}
 use Rattle.map.proofs.Finding.{found_sound}
@@ -28,8 +28,7 @@ use Rattle.tm.specs.Frame.{time_of}
 use Rattle.tm.proofs.Frames.{frames_sized, after_in_range}
 use Rattle.requests.specs.declared.Action.TheVariants.{Load}
 use Rattle.requests.specs.declared.Request.TheVariants.{Memory}
-use Rattle.requests.specs.declared.Asked.{Asked}
-use Rattle.requests.specs.declared.Asked.TheVariants.{Known}
+use Rattle.requests.specs.declared.Request.{Request}
 use Rattle.requests.specs.Request.{carried_by, most_words, area_named, outside_of}
 use Rattle.addressing.specs.Requested.{service_rows}
 use Rattle.decide.proofs.Decided.{accepted_facts, memory_facts}
@@ -113,14 +112,14 @@ record Loading (i : Input) (x : Area) : Type 0 where
   stand : Each (Stands x (application_of i.packet) (length i.store)) (blocks_of (carried_by Load) (application_of i.packet))
   store_is : store_on i ≡ loaded x (application_of i.packet) (blocks_of (carried_by Load) (application_of i.packet)) i.store
 
-module _ (i : Input) (x : Area) (h : is_accepted (verdict_on i) ≡ true) (asks : asked_on i ≡ Known (Memory Load))
-    (named : area_named i.profile (application_of i.packet) ≡ At x) where
+module _ (i : Input) (x : Area) (h : is_accepted (verdict_on i) ≡ true) (asks : asked_on i ≡ Some (Memory Load))
+    (named : area_named i.profile (application_of i.packet) ≡ Some x) where
   loading : Loading i x
   unfolding outside_of
   loading =
       let d : List ℕ = application_of i.packet in
       let facts = accepted_facts i.profile i.state (length i.store) (length i.out) i.packet h in
-      let m = memory_facts i.profile Load d (subst (λ (asked : Asked). AllHold (service_rows i.profile asked d)) asks facts.service) in
+      let m = memory_facts i.profile Load d (subst (λ (asked : Option Request). AllHold (service_rows i.profile asked d)) asks facts.service) in
       let same : m.area ≡ x = cc (m.named, named) in
       let none : outside_of x (blocks_of (carried_by Load) d) ≡ 0 = rw (sym same) m.inside in
       let area = found_sound i.profile (length i.store) (memory_id d) x facts.caller.sound named in
@@ -136,8 +135,8 @@ module _ (i : Input) (x : Area) (h : is_accepted (verdict_on i) ≡ true) (asks 
       subst (Loads x (application_of i.packet) i.store) (sym loading.store_is) (load_leaves x (application_of i.packet) i.store loading.stand)
 
 -- The last block of a load gives back its words.
-accepted_gives_back : (i : Input) (x : Area) (before : List Block) (b c : Block) → is_accepted (verdict_on i) ≡ true → asked_on i ≡ Known (Memory Load)
-    → area_named i.profile (application_of i.packet) ≡ At x → blocks_of (carried_by Load) (application_of i.packet) ≡ before ++ b ∷ []
+accepted_gives_back : (i : Input) (x : Area) (before : List Block) (b c : Block) → is_accepted (verdict_on i) ≡ true → asked_on i ≡ Some (Memory Load)
+    → area_named i.profile (application_of i.packet) ≡ Some x → blocks_of (carried_by Load) (application_of i.packet) ≡ before ++ b ∷ []
     → c.start ≡ b.start → c.words ≡ b.words → GivesBack x (application_of i.packet) (store_on i) b c
 accepted_gives_back i x before b c h asks named e start size =
     let d : List ℕ = application_of i.packet in

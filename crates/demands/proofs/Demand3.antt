@@ -1,5 +1,6 @@
 -- The third demand is met by the terminal of document 01.
 -- Assumes nothing.
+use Rattle.std.specs.Prelude.{Err}
 use mathlib.Core.Path.{◌≡◌, refl, sym, ap, ap₂, subst, ◌∙◌}
 use mathlib.Core.Logic.{inl, inr, ⊎_elim}
 use mathlib.Core.List.{List, [], ◌∷◌, ◌++◌, append_assoc}
@@ -10,8 +11,7 @@ use Rattle.laws.specs.Each.{among}
 use Rattle.laws.specs.Fold.{answers}
 use Rattle.octets.specs.Numbers.{octets16}
 use Rattle.checks.specs.declared.Check.TheVariants.{Outside}
-use Rattle.checks.specs.declared.Verdict.{Verdict}
-use Rattle.checks.specs.declared.Verdict.TheVariants.{Refused}
+use Rattle.checks.specs.Verdict.{Verdict}
 use Rattle.checks.specs.Verdict.{is_accepted, number_of, detail_of, refusal}
 use Rattle.wider.proofs.Widening.{wider_facts}
 use Rattle.tm.specs.Frame.{head_of, frame_of, time_of}
@@ -50,7 +50,7 @@ front_of i =
     head_of (record { pid = i.profile.pid; count = i.state.counts.reports; time = time_of i.time; kind = 1; subtype = 2 }) (length (echo_of i.packet) + 4)
     ++ (echo_of i.packet ++ octets16 19)
 
-detail_last : (i : Input) (k : ℕ) → refusal_frame i (Refused (refusal Outside k)) ≡ front_of i ++ octets16 k
+detail_last : (i : Input) (k : ℕ) → refusal_frame i (Err (refusal Outside k)) ≡ front_of i ++ octets16 k
 unfolding frame_of front_of
 detail_last i k =
     let e : List ℕ = echo_of i.packet in
@@ -64,7 +64,7 @@ record Nineteen (i : Input) (k : ℕ) : Type 0 where
   buffer : (reference i).out ≡ front_of i ++ octets16 k ++ drop 24 i.out
   place : length (front_of i) ≡ 22
 
-nineteen : (i : Input) (k : ℕ) → verdict_on i ≡ Refused (refusal Outside k) → Nineteen i k
+nineteen : (i : Input) (k : ℕ) → verdict_on i ≡ Err (refusal Outside k) → Nineteen i k
 unfolding outcome_of among
 nineteen i k e =
     let r : Reported i (reference i) = terminal_refuses.reported i (ap is_accepted e) (rw e refl) in

@@ -5,7 +5,7 @@ use mathlib.Core.List.{List}
 use Prim.Native.Nat.{ℕ}
 use Rattle.reader.specs.declared.Reading.{Reading}
 use Rattle.writer.specs.declared.Order.{Order}
-use Rattle.writer.specs.declared.Written.{Written}
+use Rattle.writer.specs.Writer.{Written}
 use Rattle.octets.specs.declared.copy.Span.{Span}
 use Rattle.octets.specs.Copy.{Hands}
 use Rattle.reader.specs.Reader.{Reads}

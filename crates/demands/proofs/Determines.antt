@@ -7,7 +7,7 @@ use lib.ListN.{drop}
 use Rattle.laws.specs.Fold.{answers}
 use Rattle.laws.proofs.Tests.{by-test}
 use Rattle.checks.specs.declared.Refusal.{Refusal}
-use Rattle.checks.specs.declared.Verdict.{Verdict}
+use Rattle.checks.specs.Verdict.{Verdict}
 use Rattle.checks.specs.Verdict.{is_accepted}
 use Rattle.checks.specs.Table.{Row}
 use Rattle.checks.proofs.Table.{answer-from}

@@ -1,5 +1,6 @@
 -- Whatever is said of a packet is so: the explainer of document 02 meets the demand, no other does, and it says what a terminal answers; wrong explainers, and examples by computation.
 -- Assumes nothing.
+use Rattle.std.specs.Prelude.{Ok, Err}
 use mathlib.Core.Path.{◌≡◌, refl, sym, ap, subst, ◌∙◌}
 use mathlib.Core.Bool.{Bool, true, false, false≢true}
 use mathlib.Core.Logic.{◌⊎◌, inl, inr, ⊎_elim}
@@ -22,8 +23,7 @@ use Rattle.blocks.specs.Blocks.{block_behind}
 use Rattle.decide.specs.Table.{caller_rows, packet_rows, rows}
 use Rattle.decide.specs.Octets.{block_octets, octets_of}
 use Rattle.explaining.specs.declared.Reason.{Reason}
-use Rattle.explaining.specs.declared.Explanation.{Explanation}
-use Rattle.explaining.specs.declared.Explanation.TheVariants.{Accepted as Fine, Because}
+use Rattle.explaining.specs.Explanation.{Explanation}
 use Rattle.explaining.specs.Explanation.{reason_for, explained_by, explanation_of}
 use Rattle.terminal.specs.Outcome.{Input}
 use Rattle.lineunit.specs.Unit.{line_profile}
@@ -37,23 +37,23 @@ use Rattle.demands.proofs.Looking.{shows_first}
 -- ---- acceptance and refusal, told apart
 
 abbrev is_fine : Explanation → Bool
-is_fine Fine = true
-is_fine (Because e) = false
+is_fine (Ok _) = true
+is_fine (Err e) = false
 
 abbrev reason_in : Explanation → Reason
-reason_in Fine = record { number = 0; detail = 0; first = 0; last = 0 }
-reason_in (Because e) = e
+reason_in (Ok _) = record { number = 0; detail = 0; first = 0; last = 0 }
+reason_in (Err e) = e
 
-fine_or_because : (x : Explanation) → (x ≡ Fine) ⊎ ((e : Reason) × (x ≡ Because e))
-fine_or_because Fine = inl refl
-fine_or_because (Because e) = inr (e, refl)
+fine_or_because : (x : Explanation) → (x ≡ Ok tt) ⊎ ((e : Reason) × (x ≡ Err e))
+fine_or_because (Ok _) = inl refl
+fine_or_because (Err e) = inr (e, refl)
 
 module _ (p : Profile) (packet : List ℕ) where
-  said_fine : AllHold (packet_rows p packet) → explanation_of p packet ≡ Fine
+  said_fine : AllHold (packet_rows p packet) → explanation_of p packet ≡ Ok tt
   unfolding explanation_of
   said_fine h = ap (explained_by packet) (all_accept (packet_rows p packet) h)
 
-  said_because : (r : Row Refusal) → First (packet_rows p packet) r → explanation_of p packet ≡ Because (reason_for packet r.refusal)
+  said_because : (r : Row Refusal) → First (packet_rows p packet) r → explanation_of p packet ≡ Err (reason_for packet r.refusal)
   unfolding explanation_of
   said_because r f = ap (explained_by packet) (first_refuses (packet_rows p packet) r f)
 
@@ -89,18 +89,18 @@ explainer_explains = record {
 -- ---- no other
 
 -- A reason that tells why is the one of the check that fails.
-tells_one : (p : Profile) (packet : List ℕ) (e : Reason) → Tells p packet e → Because e ≡ explanation_of p packet
+tells_one : (p : Profile) (packet : List ℕ) (e : Reason) → Tells p packet e → Err e ≡ explanation_of p packet
 tells_one p packet e t =
     let r : Row Refusal = t.check in
     let last : e.last ≡ (octets_of packet r.refusal).to - 1 = omega (arith, ap (λ (s : Span). s.to) t.offsets) in
-    ap Because (rw (t.number, t.detail, ap (λ (s : Span). s.from) t.offsets, last) refl) ∙ sym (said_because p packet r t.fails)
+    ap Err (rw (t.number, t.detail, ap (λ (s : Span). s.from) t.offsets, last) refl) ∙ sym (said_because p packet r t.fails)
 
 -- Whatever meets the demand says the same of every packet.
 pub no_other_explainer : (f : Explainer) → Explains f → (p : Profile) (packet : List ℕ) → Octets packet → f p packet ≡ explanation_of p packet
 no_other_explainer f explains p packet o =
     ⊎_elim
-    (λ (e : f p packet ≡ Fine). e ∙ sym (said_fine p packet (explains.accepted p packet o e)))
-    (λ (b : (e : Reason) × (f p packet ≡ Because e)). b.1 ∙ tells_one p packet b.0 (explains.refused p packet o b.0 b.1))
+    (λ (e : f p packet ≡ Ok tt). e ∙ sym (said_fine p packet (explains.accepted p packet o e)))
+    (λ (b : (e : Reason) × (f p packet ≡ Err e)). b.1 ∙ tells_one p packet b.0 (explains.refused p packet o b.0 b.1))
     (fine_or_because (f p packet))
 
 -- ---- what a terminal answers

@@ -1,11 +1,11 @@
 -- The largest answer, by computation over the definitions: a dump of eight blocks of 240 words with both acks, from counts of 16,383.
 -- Assumes nothing.
+use Rattle.std.specs.Prelude.{Ok}
 use mathlib.Core.Path.{◌≡◌, refl}
 use mathlib.Core.List.{List, [], ◌∷◌}
 use Prim.Native.Nat.{ℕ}
 use lib.ListN.{replicate}
 use Rattle.octets.specs.Copy.{between}
-use Rattle.checks.specs.declared.Verdict.TheVariants.{Accepted}
 use Rattle.map.specs.Made.{all_flags, area_of, profile_with}
 use Rattle.terminal.specs.Outcome.{Input, input, octets_due, outcome_of}
 use Rattle.lineunit.specs.Unit.{line_time, line_out}
@@ -22,7 +22,7 @@ largest_input =
     input (profile_with 5 all_flags (area_of 1 0x1000 2000 0 ∷ [])) (from 16383 16383) line_time eight_blocks (replicate 4000 0xa5) line_out
 
 -- 4,072 octets are written, and after 16,383 each category has counted on from 0 by itself: two reports of service 1, eight of service 6.
-pub largest : outcome_of largest_input ≡ record { verdict = Accepted; written = 4072; state = from 1 7 }
+pub largest : outcome_of largest_input ≡ record { verdict = (Ok tt); written = 4072; state = from 1 7 }
 unfolding all
 largest = refl
 

@@ -1,5 +1,6 @@
 -- Row by row: where a check of the table is the first that fails, what is wrong stands in the octets that it looks at.
 -- Assumes nothing.
+use Rattle.std.specs.Prelude.{Some, None, Option}
 use mathlib.Core.Path.{◌≡◌, refl, sym, ap, ap₂, subst, ◌∙◌}
 use mathlib.Core.Bool.{true, false, false≢true}
 use mathlib.Core.List.{List, ◌++◌}
@@ -29,8 +30,6 @@ use Rattle.reader.specs.Reader.{least_octets, most_detail, control_right, reader
 use Rattle.reader.proofs.Judged.{control_right_lem}
 use Rattle.map.specs.declared.Area.{Area}
 use Rattle.map.specs.declared.Profile.{Profile}
-use Rattle.map.specs.declared.Found.{Found}
-use Rattle.map.specs.declared.Found.TheVariants.{At}
 use Rattle.map.specs.Place.{used, find_in, inside}
 use Rattle.blocks.specs.declared.Block.{Block}
 use Rattle.blocks.specs.Blocks.{block_behind, blocks_of}
@@ -40,8 +39,7 @@ use Rattle.blocks.proofs.WellFormed.{head_facts, right_bounds}
 use Rattle.blocks.proofs.Behind.{Stopped, behind_fields}
 use Rattle.requests.specs.declared.Action.{Action}
 use Rattle.requests.specs.declared.Request.TheVariants.{Memory as Asks, Connection}
-use Rattle.requests.specs.declared.Asked.{Asked}
-use Rattle.requests.specs.declared.Asked.TheVariants.{Known, Unknown}
+use Rattle.requests.specs.declared.Request.{Request}
 use Rattle.requests.proofs.Found.{found_is, found_not}
 use Rattle.requests.proofs.Outside.{outside_behind}
 use Rattle.requests.specs.Request.{serves, asked_for, offers, carried_by, most_words, area_named, is_found, inside_of, outside_of}
@@ -163,12 +161,12 @@ module _ (p : Profile) (packet : List ℕ) (octets : Octets packet) where
 
     -- ---- 5, 17, 18 and 19
 
-    module _ (asked : Asked) (asks : asked_by f ≡ asked) where
+    module _ (asked : Option Request) (asks : asked_by f ≡ asked) where
       shows_form : (detail : ℕ) → NotFormed asked d → Shows (record { check = Form; detail = detail })
       unfolding octets_of application_of
-      shows_form detail h = (omega (arith, least), (refl, subst (λ (a : Asked). NotFormed a d) (sym asks) h))
+      shows_form detail h = (omega (arith, least), (refl, subst (λ (a : Option Request). NotFormed a d) (sym asks) h))
 
-    module _ (action : Action) (asks : asked_by f ≡ Known (Asks action)) (head : head_right d ≡ true) where
+    module _ (action : Action) (asks : asked_by f ≡ Some (Asks action)) (head : head_right d ≡ true) where
       -- The application data lies in the packet.
       data_short : length d ≤ n - 2 - 10
       unfolding application_of
@@ -186,14 +184,14 @@ module _ (p : Profile) (packet : List ℕ) (octets : Octets packet) where
       unfolding octets_of
       shows_memory h = (omega arith, (id_shown, found_not (area_named p d) h))
 
-      module _ (area : Area) (named : area_named p d ≡ At area) where
+      module _ (area : Area) (named : area_named p d ≡ Some area) where
         shows_right : has_right (area_named p d) action ≡ false → Shows (record { check = Right; detail = octet d 0 })
         unfolding octets_of
         shows_right h = (
           omega arith,
           (
             id_shown,
-            record { area = area; named = named; action = action; asks = asks; lacks = subst (λ (g : Found). has_right g action ≡ false) named h },
+            record { area = area; named = named; action = action; asks = asks; lacks = subst (λ (g : Option Area). has_right g action ≡ false) named h },
           ),
         )
 
@@ -235,14 +233,14 @@ module _ (p : Profile) (packet : List ℕ) (octets : Octets packet) where
 
     -- ---- the table
 
-    shows_memory_rows : (action : Action) → asked_by f ≡ Known (Asks action) → (r : Row Refusal) → First (memory_rows p action d) r → ShowsRow r
+    shows_memory_rows : (action : Action) → asked_by f ≡ Some (Asks action) → (r : Row Refusal) → First (memory_rows p action d) r → ShowsRow r
     unfolding memory_rows area_rows
     shows_memory_rows action asks r =
         first_by ShowsRow _ _ r
-        (λ w. shows_form (Known (Asks action)) asks 0 (λ formed. false≢true (sym w ∙ formed.0)))
+        (λ w. shows_form (Some (Asks action)) asks 0 (λ formed. false≢true (sym w ∙ formed.0)))
         (λ head.
         first_by ShowsRow _ _ r
-        (λ w. shows_form (Known (Asks action)) asks (form_detail (form_of (carried_by action) (most_words action) d)) (λ formed. false≢true (sym w ∙ formed.1)))
+        (λ w. shows_form (Some (Asks action)) asks (form_detail (form_of (carried_by action) (most_words action) d)) (λ formed. false≢true (sym w ∙ formed.1)))
         (λ formed.
         first_by ShowsRow _ _ r
         (λ w. shows_memory action asks head w)
@@ -253,19 +251,19 @@ module _ (p : Profile) (packet : List ℕ) (octets : Octets packet) where
         (λ _.
         first_by ShowsRow _ _ r
         (λ w.
-        let number : outside_of at.0 (blocks_of (carried_by action) d) ≡ outside_number (area_named p d) action d = sym (ap (λ (g : Found). outside_number g action d) at.1) in
+        let number : outside_of at.0 (blocks_of (carried_by action) d) ≡ outside_number (area_named p d) action d = sym (ap (λ (g : Option Area). outside_number g action d) at.1) in
         shows_outside action asks head at.0 at.1 formed (outside_number (area_named p d) action d) number
-        (ap (λ (m : ℕ). eqb m 0) (sym number) ∙ subst (λ (g : Found). all_inside g action d ≡ false) at.1 w))
+        (ap (λ (m : ℕ). eqb m 0) (sym number) ∙ subst (λ (g : Option Area). all_inside g action d ≡ false) at.1 w))
         (λ _. first-none r)))))
 
-    shows_service_rows : (asked : Asked) → asked_by f ≡ asked → (r : Row Refusal) → First (service_rows p asked d) r → ShowsRow r
+    shows_service_rows : (asked : Option Request) → asked_by f ≡ asked → (r : Row Refusal) → First (service_rows p asked d) r → ShowsRow r
     unfolding connection_rows
-    shows_service_rows (Known (Asks action)) asks r = shows_memory_rows action asks r
-    shows_service_rows (Known Connection) asks r =
+    shows_service_rows (Some (Asks action)) asks r = shows_memory_rows action asks r
+    shows_service_rows (Some Connection) asks r =
         first_by ShowsRow _ _ r
-        (λ w. shows_form (Known Connection) asks 0 (λ e. false≢true (sym w ∙ eq-eqb (length d) 0 (ap length e))))
+        (λ w. shows_form (Some Connection) asks 0 (λ e. false≢true (sym w ∙ eq-eqb (length d) 0 (ap length e))))
         (λ _. first-none r)
-    shows_service_rows Unknown asks r = first-none r
+    shows_service_rows None asks r = first-none r
 
   -- Whichever row of the table is the first that fails.
   pub shows_first : (r : Row Refusal) → First (packet_rows p packet) r → ShowsRow r

@@ -1,5 +1,6 @@
 -- On one packet a refusal's number settles all of it, but for 19, whose detail depends on the profile.
 -- Assumes nothing.
+use Rattle.std.specs.Prelude.{Some, None, Err, Option}
 use mathlib.Core.Path.{◌≡◌, refl, sym, ap, ◌∙◌}
 use mathlib.Core.Logic.{◌⊎◌, inl, inr}
 use mathlib.Core.Bool.{true, false, cond, false≢true}
@@ -10,7 +11,6 @@ use Rattle.laws.specs.Each.{Each, among}
 use Rattle.laws.proofs.Tests.{by-test}
 use Rattle.checks.specs.declared.Check.TheVariants.{Service, Subtype, Memory, Right, Outside}
 use Rattle.checks.specs.declared.Refusal.{Refusal}
-use Rattle.checks.specs.declared.Verdict.TheVariants.{Refused}
 use Rattle.checks.specs.Table.{Row}
 use Rattle.checks.specs.Verdict.{check_number, is_accepted, number_of, refusal, row}
 use Rattle.checks.proofs.Table.{first-row}
@@ -25,8 +25,7 @@ use Rattle.blocks.specs.Blocks.{memory_id}
 use Rattle.decide.specs.declared.State.{State}
 use Rattle.requests.specs.declared.Action.{Action}
 use Rattle.requests.specs.declared.Request.TheVariants.{Memory as Asks, Connection}
-use Rattle.requests.specs.declared.Asked.{Asked}
-use Rattle.requests.specs.declared.Asked.TheVariants.{Known, Unknown}
+use Rattle.requests.specs.declared.Request.{Request}
 use Rattle.requests.specs.Request.{area_named}
 use Rattle.serving.specs.Services.{outside_number, all_inside, area_rows, memory_rows, connection_rows}
 use Rattle.decide.specs.Table.{caller_rows, rows, decided}
@@ -53,13 +52,13 @@ abbrev outside_row : Profile → Action → List ℕ → Row Refusal
 outside_row p action d = row Outside (outside_number (area_named p d) action d) (all_inside (area_named p d) action d)
 
 -- A row is settled by its number, where that may part: for 19 by the action asked, and then the whole row; else the refusal.
-record Settled (p : Profile) (f : Fields) (asked : Asked) (d : List ℕ) (x : Row Refusal) : Type 0 where
-  outside : eqb (number x) 19 ≡ true → (action : Action) × (asked ≡ Known (Asks action)) × (x ≡ outside_row p action d)
-  other : eqb (number x) 19 ≡ false → parts (Refused x.refusal) ≡ true → x.refusal ≡ named f d (number x)
+record Settled (p : Profile) (f : Fields) (asked : Option Request) (d : List ℕ) (x : Row Refusal) : Type 0 where
+  outside : eqb (number x) 19 ≡ true → (action : Action) × (asked ≡ Some (Asks action)) × (x ≡ outside_row p action d)
+  other : eqb (number x) 19 ≡ false → parts (Err x.refusal) ≡ true → x.refusal ≡ named f d (number x)
 
-module _ {p : Profile} {f : Fields} {asked : Asked} {d : List ℕ} {x : Row Refusal} (e : eqb (number x) 19 ≡ false) where
+module _ {p : Profile} {f : Fields} {asked : Option Request} {d : List ℕ} {x : Row Refusal} (e : eqb (number x) 19 ≡ false) where
   -- A row whose number may not part.
-  unparted : parts (Refused x.refusal) ≡ false → Settled p f asked d x
+  unparted : parts (Err x.refusal) ≡ false → Settled p f asked d x
   unparted h = record { outside = λ t. absurd (false≢true (sym e ∙ t)); other = λ _ t. absurd (false≢true (sym h ∙ t)) }
 
   -- A row of 3, 4, 17 or 18.
@@ -67,12 +66,12 @@ module _ {p : Profile} {f : Fields} {asked : Asked} {d : List ℕ} {x : Row Refu
   refusing h = record { outside = λ t. absurd (false≢true (sym e ∙ t)); other = λ _ _. h }
 
 -- Every row of the service asked is settled.
-service_settled : (p : Profile) (f : Fields) (asked : Asked) (d : List ℕ) → Each (Settled p f asked d) (service_rows p asked d)
+service_settled : (p : Profile) (f : Fields) (asked : Option Request) (d : List ℕ) → Each (Settled p f asked d) (service_rows p asked d)
 unfolding memory_rows area_rows connection_rows among named
-service_settled p f (Known (Asks action)) d =
+service_settled p f (Some (Asks action)) d =
     (unparted refl refl, (unparted refl refl, (refusing refl refl, (refusing refl refl, (record { outside = λ _. (action, refl, refl); other = λ e. absurd (false≢true (sym e)) }, tt)))))
-service_settled p f (Known Connection) d = (unparted refl refl, tt)
-service_settled p f Unknown d = tt
+service_settled p f (Some Connection) d = (unparted refl refl, tt)
+service_settled p f None d = tt
 
 -- So is every row of a packet's table.
 settled : (p : Profile) (state : State) (store out : ℕ) (packet : List ℕ)
@@ -85,7 +84,7 @@ settled p state store out packet =
 
 -- The row that a refusal comes from.
 refused-row : (p : Profile) (state : State) (store out : ℕ) (packet : List ℕ) → is_accepted (decided p state store out packet) ≡ false
-    → (r : Row Refusal) × (decided p state store out packet ≡ Refused r.refusal)
+    → (r : Row Refusal) × (decided p state store out packet ≡ Err r.refusal)
     × Settled p (fields_of packet) (asked_by (fields_of packet)) (application_of packet) r × (r.holds ≡ false)
 unfolding decided
 refused-row p state store out packet h =
@@ -100,7 +99,7 @@ pub same_number : (wide narrow : Profile) (state : State) (store out : ℕ) (pac
     → is_accepted (decided wide state store out packet) ≡ false
     → number_of (decided narrow state store out packet) ≡ number_of (decided wide state store out packet)
     → (decided wide state store out packet ≡ decided narrow state store out packet)
-    ⊎ ((k : ℕ) × (m : ℕ) × (decided narrow state store out packet ≡ Refused (refusal Outside k)) × (decided wide state store out packet ≡ Refused (refusal Outside m)) × (k ≤ m))
+    ⊎ ((k : ℕ) × (m : ℕ) × (decided narrow state store out packet ≡ Err (refusal Outside k)) × (decided wide state store out packet ≡ Err (refusal Outside m)) × (k ≤ m))
 same_number wide narrow state store out packet w n v e =
     let f = fields_of packet in
     let d : List ℕ = application_of packet in
@@ -118,12 +117,12 @@ same_number wide narrow state store out packet w n v e =
     inr (
       outside_number (area_named narrow d) here.0 d,
       outside_number (area_named wide d) here.0 d,
-      x.1 ∙ ap (λ (r : Row Refusal). Refused r.refusal) here.2,
-      y.1 ∙ ap (λ (r : Row Refusal). Refused r.refusal) row_is,
+      x.1 ∙ ap (λ (r : Row Refusal). Err r.refusal) here.2,
+      y.1 ∙ ap (λ (r : Row Refusal). Err r.refusal) row_is,
       outside_later here.0 d (widened wide narrow store (memory_id d) w) (ap (λ (r : Row Refusal). r.holds) (sym row_is) ∙ y.3),
     ))
     (λ q.
     let one : x.0.refusal ≡ named f d (number x.0) = x.2.other q (ap parts (sym x.1) ∙ t) in
     let two : y.0.refusal ≡ named f d (number y.0) = y.2.other (rw same q) (rw same (ap parts (sym x.1) ∙ t)) in
-    inl (y.1 ∙ ap Refused (two ∙ ap (named f d) same ∙ sym one) ∙ sym x.1)))
+    inl (y.1 ∙ ap Err (two ∙ ap (named f d) same ∙ sym one) ∙ sym x.1)))
     (λ u. inl (same_verdict wide narrow store w state out packet u))

@@ -1,5 +1,6 @@
 -- The tables of checks of a narrower profile and of a wider one for one packet, side by side, row by row.
 -- Assumes nothing.
+use Rattle.std.specs.Prelude.{Some, None, Ok, Err, Option}
 use mathlib.Core.Path.{◌≡◌, refl, sym, ap, ◌∙◌}
 use mathlib.Core.Bool.{Bool, true, false, ◌&&◌, ◌||◌, false≢true}
 use mathlib.Core.List.{List, [], ◌∷◌}
@@ -12,7 +13,6 @@ use Rattle.laws.specs.Each.{every, among}
 use Rattle.laws.proofs.Tests.{by-test, both}
 use Rattle.fields.specs.Fields.{apid_of}
 use Rattle.checks.specs.declared.Refusal.{Refusal}
-use Rattle.checks.specs.declared.Verdict.TheVariants.{Accepted, Refused}
 use Rattle.checks.specs.Table.{Row, answer}
 use Rattle.checks.specs.Verdict.{check_number, verdict_by}
 use Rattle.checks.proofs.Table.{Beside, none, more, same_row, parting-row, beside_self, beside_append, beside_same}
@@ -29,8 +29,7 @@ use Rattle.decide.specs.declared.State.{State}
 use Rattle.requests.specs.declared.Action.{Action}
 use Rattle.requests.specs.declared.Action.TheVariants.{Load, Dump, Check}
 use Rattle.requests.specs.declared.Request.TheVariants.{Memory, Connection}
-use Rattle.requests.specs.declared.Asked.{Asked}
-use Rattle.requests.specs.declared.Asked.TheVariants.{Known, Unknown}
+use Rattle.requests.specs.declared.Request.{Request}
 use Rattle.requests.specs.Request.{memory_type, connection_type, serves, flag_for, offers, area_named}
 use Rattle.decide.specs.Table.{caller_right, caller_rows, rows, decided}
 use Rattle.serving.specs.Services.{area_rows, memory_rows, connection_rows}
@@ -62,16 +61,16 @@ module _ (wide narrow : Flags) (kept : KeptFlags wide narrow) where
   flag_grows Dump = kept.dump
   flag_grows Check = kept.check
 
-  offers_grows : (asked : Asked) → offers narrow asked ≡ true → offers wide asked ≡ true
-  offers_grows (Known (Memory action)) = flag_grows action
-  offers_grows (Known Connection) = kept.connection
-  offers_grows Unknown = λ h. h
+  offers_grows : (asked : Option Request) → offers narrow asked ≡ true → offers wide asked ≡ true
+  offers_grows (Some (Memory action)) = flag_grows action
+  offers_grows (Some Connection) = kept.connection
+  offers_grows None = λ h. h
 
 -- ---- the whole table
 
 -- Two tables side by side, where the rows of those refusals may part.
 abbrev Together : List (Row Refusal) → List (Row Refusal) → Type 0
-Together narrow wide = Beside (λ r. parts (Refused r)) narrow wide
+Together narrow wide = Beside (λ r. parts (Err r)) narrow wide
 
 module _ (wide narrow : Profile) (octets : ℕ) (w : wider wide narrow octets ≡ true) where
   facts : WiderFacts wide narrow octets
@@ -87,17 +86,17 @@ module _ (wide narrow : Profile) (octets : ℕ) (w : wider wide narrow octets �
       more (same_row refl refl) (more (same_row refl right) none)
 
   -- The rows of each service, by what is asked.
-  service_beside : (asked : Asked) (d : List ℕ) → Together (service_rows narrow asked d) (service_rows wide asked d)
+  service_beside : (asked : Option Request) (d : List ℕ) → Together (service_rows narrow asked d) (service_rows wide asked d)
   unfolding memory_rows area_rows among
-  service_beside (Known (Memory action)) d =
+  service_beside (Some (Memory action)) d =
       let found : Widened (area_named narrow d) (area_named wide d) = widened wide narrow octets (memory_id d) w in
       more (same_row refl refl)
       (more (same_row refl refl)
       (more (parting-row refl (found_grows found))
       (more (parting-row refl (right_grows action found))
       (more (parting-row refl (inside_grows action d found)) none))))
-  service_beside (Known Connection) d = beside_self (connection_rows d)
-  service_beside Unknown d = none
+  service_beside (Some Connection) d = beside_self (connection_rows d)
+  service_beside None d = none
 
   request_beside : (f : Fields) (d : List ℕ) → Together (request_rows narrow f d) (request_rows wide f d)
   unfolding request_rows among
@@ -119,7 +118,7 @@ module _ (wide narrow : Profile) (octets : ℕ) (w : wider wide narrow octets �
     pub same_verdict : parts (decided narrow state octets out packet) ≡ false
         → decided wide state octets out packet ≡ decided narrow state octets out packet
     unfolding decided
-    same_verdict h = beside_same Accepted Refused parts rows_beside (λ r. refl) h
+    same_verdict h = beside_same (Ok tt) Err parts rows_beside (λ r. refl) h
 
 -- ---- the same check or a later one
 
@@ -133,11 +132,11 @@ ascends [] = true
 ascends (n ∷ rest) = every (λ m. leb (place_in n order) (place_in m order)) rest && ascends rest
 
 -- So do those of every table.
-table_ascends : (asked : Asked) → ascends (table_numbers asked) ≡ true
+table_ascends : (asked : Option Request) → ascends (table_numbers asked) ≡ true
 unfolding ascends every place_in
-table_ascends (Known (Memory action)) = refl
-table_ascends (Known Connection) = refl
-table_ascends Unknown = refl
+table_ascends (Some (Memory action)) = refl
+table_ascends (Some Connection) = refl
+table_ascends None = refl
 
 place_most : (n : ℕ) (l : List ℕ) → place_in n l ≤ length l
 unfolding place_in

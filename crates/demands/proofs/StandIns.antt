@@ -1,5 +1,6 @@
 -- Each family of wrong terminals, readers and writers fails a demand; two of them have demand 3's agreement all the same.
 -- Assumes nothing.
+use Rattle.std.specs.Prelude.{Err, Ok}
 use mathlib.Core.Path.{◌≡◌, refl, sym, ap, subst, ◌∙◌}
 use mathlib.Core.Bool.{true, false, false≢true}
 use mathlib.Core.Logic.{inl}
@@ -13,14 +14,13 @@ use Rattle.octets.specs.declared.copy.Span.{Span}
 use Rattle.octets.specs.Copy.{laid, placed}
 use Rattle.octets.proofs.Laid.{laid_elsewhere, laid-inside}
 use Rattle.checks.specs.declared.Refusal.{Refusal}
-use Rattle.checks.specs.declared.Verdict.{Verdict}
-use Rattle.checks.specs.declared.Verdict.TheVariants.{Refused}
+use Rattle.checks.specs.Verdict.{Verdict}
 use Rattle.checks.specs.Verdict.{is_accepted}
 use Rattle.reader.specs.Reader.{reader_rows, judged, reading_of}
 use Rattle.tc.specs.declared.Method.TheVariants.{Crc}
 use Rattle.writer.specs.declared.Order.{Order}
-use Rattle.writer.specs.declared.Written.{Written}
-use Rattle.writer.specs.declared.Written.TheVariants.{Packet, BadField, BadData, NoRoom}
+use Rattle.writer.specs.Writer.{Written}
+use Rattle.writer.specs.declared.WriteError.TheVariants.{BadField, BadData, NoRoom}
 use Rattle.writer.specs.Writer.{written_number, is_packet}
 use Rattle.map.specs.declared.Profile.{Profile}
 use Rattle.wider.specs.Wider.{wider}
@@ -153,7 +153,7 @@ refuser_agrees by = blind_agrees (refuses_by by) (λ wide narrow m s h. rw (wide
 pub refuses_by_refuses : (by : List ℕ → Refusal) → Refuser (refuses_by by)
 unfolding stamped
 refuses_by_refuses by i =
-    one_refusal _ _ refl refl refl (ap (λ (o : List ℕ). laid i.out 0 o) (one_frame i.profile.pid (time_of i.time) i.state.counts (failed (Refused (by i.packet)) i.packet)))
+    one_refusal _ _ refl refl refl (ap (λ (o : List ℕ). laid i.out 0 o) (one_frame i.profile.pid (time_of i.time) i.state.counts (failed (Err (by i.packet)) i.packet)))
 
 -- So has a terminal that returns one fixed report.
 pub fixed_report_agrees : (v : Verdict) (octets : List ℕ) → Widens (reports_only v octets)
@@ -247,10 +247,10 @@ never_writing_fails w read never trips =
     false≢true (sym (never o [] (replicate 12 0)) ∙ ap is_packet x.answer)
 
 refused_not_packet : (a : Written) → written_number a ≡ 50 → is_packet a ≡ false
-refused_not_packet (Packet n) h = absurd (omega arith)
-refused_not_packet BadField h = refl
-refused_not_packet BadData h = refl
-refused_not_packet NoRoom h = refl
+refused_not_packet (Ok n) h = absurd (omega arith)
+refused_not_packet (Err BadField) h = refl
+refused_not_packet (Err BadData) h = refl
+refused_not_packet (Err NoRoom) h = refl
 
 -- A buffer that is touched by a write with a PID of 200.
 pub touching_writer_fails : (w : Writer) → Touches w → WriterRefuses w → ⊥

@@ -1,5 +1,6 @@
 -- The reader of frames, and the terminal's frames before it, meet the second demand.
 -- Assumes nothing.
+use Rattle.std.specs.Prelude.{Ok, Err}
 use mathlib.Core.Path.{◌≡◌, refl, sym, ap, subst, ◌∙◌}
 use mathlib.Core.Bool.{false, false≢true}
 use mathlib.Core.Logic.{⊎_elim}
@@ -9,8 +10,7 @@ use Rattle.checks.specs.Table.{Row, First, AllHold, answer}
 use Rattle.checks.proofs.Table.{first_gives, all_give, answer-from}
 use Rattle.tm.specs.Frame.{cut}
 use Rattle.tmreader.specs.declared.Flaw.{Flaw}
-use Rattle.tmreader.specs.declared.Verdict.TheVariants.{Clean, Refused}
-use Rattle.tmreader.specs.Reader.{is_clean, number_of, frame_rows, judged, reading_of}
+use Rattle.tmreader.specs.Reader.{Verdict, is_clean, number_of, frame_rows, judged, reading_of}
 use Rattle.tmreader.proofs.RoundTrip.{clean_frame}
 use Rattle.terminal.specs.Outcome.{frames_due, octets_due, outcome_of, out_after}
 use Rattle.terminal.proofs.Due.{front_due, due-cut}
@@ -21,18 +21,22 @@ use Rattle.demands.specs.Telemetry.{DecidesFrame, FrameOrder, ReadsFrames, Frame
 use Rattle.demands.proofs.Demand1.{none-placed}
 
 module _ (table : List (Row Flaw)) where
-  first_refuses : (r : Row Flaw) → First table r → answer Clean Refused table ≡ Refused r.refusal
-  first_refuses r h = first_gives Clean Refused table r h
+  -- What the rows answer.
+  abbrev answered : Verdict
+  answered = answer (Ok tt) Err table
+
+  first_refuses : (r : Row Flaw) → First table r → answered ≡ Err r.refusal
+  first_refuses r h = first_gives (Ok tt) Err table r h
 
   -- A refused frame has a first check that fails.
-  refused-first : is_clean (answer Clean Refused table) ≡ false → (r : Row Flaw) × First table r
+  refused-first : is_clean answered ≡ false → (r : Row Flaw) × First table r
   refused-first h =
-      ⊎_elim (λ (all : AllHold table). absurd (false≢true (sym h ∙ ap is_clean (all_give Clean Refused table all)))) (λ f. f) (answer-from table)
+      ⊎_elim (λ (all : AllHold table). absurd (false≢true (sym h ∙ ap is_clean (all_give (Ok tt) Err table all)))) (λ f. f) (answer-from table)
 
-  frame_decides : DecidesFrame table (answer Clean Refused table)
+  frame_decides : DecidesFrame table answered
   frame_decides = record {
     refuses = first_refuses;
-    passes = all_give Clean Refused table;
+    passes = all_give (Ok tt) Err table;
     when = λ n f. let e = first_refuses f.0 f.1 in (ap is_clean e, ap number_of e ∙ f.2);
     only = λ n g. let f = refused-first g.0 in (f.0, f.1, sym (ap number_of (first_refuses f.0 f.1)) ∙ g.1);
   }

@@ -1,5 +1,6 @@
 -- The round trips of the reader and the writer of document 01.
 -- Assumes nothing.
+use Rattle.std.specs.Prelude.{Ok}
 use mathlib.Core.Path.{◌≡◌, sym, ap, ap₂, ◌∙◌}
 use mathlib.Core.Bool.{true, ◌&&◌}
 use mathlib.Core.List.{List, ◌++◌}
@@ -20,7 +21,6 @@ use Rattle.reader.specs.Reader.{reading_of, data_read}
 use Rattle.tc.proofs.Laying.{flag_lt, selected_flag, packet_length}
 use Rattle.reader.proofs.RoundTrip.{Valid, packet_reads, clean_reads}
 use Rattle.writer.specs.declared.Order.{Order}
-use Rattle.writer.specs.declared.Written.TheVariants.{Packet}
 use Rattle.writer.specs.Writer.{fields_for, fields_right, buffer_after}
 use Rattle.demands.specs.Packets.{reference_reader, reference_writer, order_of, Ordinary}
 use Rattle.demands.specs.Refusing.{Writable}
@@ -74,7 +74,7 @@ order_right : (f : Fields) → Valid f → fields_right (order_of f) ≡ true
 order_right f v =
     rw (le-leb (f.apid / 16) 127 (omega (arith, v.apid)), le-leb f.count count_most (omega (arith, v.count)), le-leb f.ack 15 (omega (arith, v.ack)))
 
-read_writes : (p buffer : List ℕ) → Octets p → (reading_of p).verdict ≡ Rattle.checks.specs.declared.Verdict.TheVariants.Accepted → Ordinary (reading_of p).fields
+read_writes : (p buffer : List ℕ) → Octets p → (reading_of p).verdict ≡ Ok tt → Ordinary (reading_of p).fields
     → length p ≤ length buffer → WritesBack p buffer (reference_writer (order_of (reading_of p).fields) (data_read p) buffer)
 read_writes p buffer octets h ordinary room =
     let f : Fields = (reading_of p).fields in
@@ -82,7 +82,7 @@ read_writes p buffer octets h ordinary room =
     let w : Writable (order_of f) (data_read p) buffer =
     record { fields = order_right f c.valid; short = c.short; room = omega (arith, c.long) } in
     record {
-      answer = fits (order_of f) (data_read p) buffer w ∙ ap Packet c.long;
+      answer = fits (order_of f) (data_read p) buffer w ∙ ap Ok c.long;
       octets =
           written_buffer (order_of f) (data_read p) buffer w
           ∙ ap₂ (λ (x : List ℕ) (n : ℕ). x ++ drop n buffer) (ap (λ (g : Fields). packet_of g (data_read p)) (restored f c.valid ordinary) ∙ c.whole) c.long;

@@ -1,5 +1,6 @@
 -- What a wider profile allows and does with a request: all that the narrower allows, and for a request that the narrower accepts, the same.
 -- Assumes nothing.
+use Rattle.std.specs.Prelude.{Some, None, Option}
 use mathlib.Core.Path.{◌≡◌, refl, sym, ◌∙◌}
 use mathlib.Core.Bool.{true, false, false≢true}
 use mathlib.Core.Logic.{◌⊎◌, ⊎_elim}
@@ -14,7 +15,6 @@ use Rattle.checks.specs.Table.{AllHold}
 use Rattle.map.specs.declared.Rights.{Rights}
 use Rattle.map.specs.declared.Area.{Area}
 use Rattle.map.specs.declared.Profile.{Profile}
-use Rattle.map.specs.declared.Found.{Found}
 use Rattle.map.specs.Place.{inside, octet_at}
 use Rattle.wider.specs.Wider.{keeps_rights, covers, wider}
 use Rattle.wider.proofs.Keeping.{rights_kept}
@@ -26,8 +26,7 @@ use Rattle.blocks.specs.Blocks.{memory_id, blocks_of, words_of}
 use Rattle.requests.specs.declared.Action.{Action}
 use Rattle.requests.specs.declared.Action.TheVariants.{Load, Dump, Check}
 use Rattle.requests.specs.declared.Request.TheVariants.{Memory, Connection}
-use Rattle.requests.specs.declared.Asked.{Asked}
-use Rattle.requests.specs.declared.Asked.TheVariants.{Known, Unknown}
+use Rattle.requests.specs.declared.Request.{Request}
 use Rattle.requests.specs.Request.{right_for, carried_by, is_found, outside_of}
 use Rattle.serving.specs.Services.{has_right, outside_number, all_inside}
 use Rattle.addressing.specs.Requested.{service_rows, task_for}
@@ -39,7 +38,7 @@ use Rattle.terminal.specs.Done.{memory_done, done}
 -- ---- what the narrower's area allows, the wider's allows
 
 -- An area.
-pub found_grows : {o p : Found} → Widened o p → is_found o ≡ true → is_found p ≡ true
+pub found_grows : {o p : Option Area} → Widened o p → is_found o ≡ true → is_found p ≡ true
 found_grows nowhere h = absurd (false≢true h)
 found_grows (widening c) h = refl
 
@@ -49,7 +48,7 @@ right_kept wide narrow Dump k h = (rights_kept wide narrow k).dump h
 right_kept wide narrow Check k h = (rights_kept wide narrow k).check h
 
 -- The right.
-pub right_grows : {o p : Found} (action : Action) → Widened o p → has_right o action ≡ true → has_right p action ≡ true
+pub right_grows : {o p : Option Area} (action : Action) → Widened o p → has_right o action ≡ true → has_right p action ≡ true
 right_grows action nowhere h = absurd (false≢true h)
 right_grows action (widening {a = a} {b = b} c) h = right_kept b.rights a.rights action (covers_facts b a c).rights h
 
@@ -62,14 +61,14 @@ outside_covered a b c blocks =
     blocks 1 (omega arith) (λ x. covers-inside b a x.start x.words c)
 
 -- The wider's first block outside comes no earlier, where it has one.
-pub outside_later : {o p : Found} (action : Action) (d : List ℕ) → Widened o p
+pub outside_later : {o p : Option Area} (action : Action) (d : List ℕ) → Widened o p
     → all_inside p action d ≡ false → outside_number o action d ≤ outside_number p action d
 outside_later action d nowhere h = omega arith
 outside_later action d (widening {a = a} {b = b} c) h =
     ⊎_elim (λ e. absurd (false≢true (sym h ∙ eq-eqb _ _ e))) (λ r. r.1) (outside_covered a b c (blocks_of (carried_by action) d))
 
 -- That every block is inside.
-pub inside_grows : {o p : Found} (action : Action) (d : List ℕ) → Widened o p → all_inside o action d ≡ true → all_inside p action d ≡ true
+pub inside_grows : {o p : Option Area} (action : Action) (d : List ℕ) → Widened o p → all_inside o action d ≡ true → all_inside p action d ≡ true
 inside_grows action d nowhere h = absurd (false≢true h)
 inside_grows action d (widening {a = a} {b = b} c) h =
     let inner : outside_of a (blocks_of (carried_by action) d) ≡ 0 = eqb-true _ _ h in
@@ -108,15 +107,15 @@ module _ (a b : Area) (covering : covers b a ≡ true) where
   memory_same Check d store h = rw (entries_same store (blocks_of (carried_by Check) d) h)
 
 -- A request that the narrower accepts has the same done by the wider.
-pub done_same : (wide narrow : Profile) (octets : ℕ) (asked : Asked) (d store : List ℕ)
+pub done_same : (wide narrow : Profile) (octets : ℕ) (asked : Option Request) (d store : List ℕ)
     → wider wide narrow octets ≡ true → AllHold (service_rows narrow asked d)
     → done (task_for wide asked d) d store ≡ done (task_for narrow asked d) d store
 unfolding outside_of
-done_same wide narrow octets (Known (Memory action)) d store w all =
+done_same wide narrow octets (Some (Memory action)) d store w all =
     let m = memory_facts narrow action d all in
     let f = wider_finds wide narrow octets (memory_id d) m.area w m.named in
     rw (m.named, f.1)
     (memory_same m.area f.0 f.2 action d store
     (none_each (λ (x : Block). inside m.area x.start x.words) (blocks_of (carried_by action) d) 1 (omega arith) m.inside))
-done_same wide narrow octets (Known Connection) d store w all = refl
-done_same wide narrow octets Unknown d store w all = refl
+done_same wide narrow octets (Some Connection) d store w all = refl
+done_same wide narrow octets None d store w all = refl

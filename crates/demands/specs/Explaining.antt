@@ -1,5 +1,5 @@
 -- Document 02, wish 5, of anything that explains: "Proved: that check fails by 01's rule and every earlier one holds." What is wrong is said of the octets that are shown.
-use Rattle.std.specs.Prelude.{◌≡◌, true, false, cond, List, [], ◌∷◌, ◌++◌, ℕ, ◌+◌, ◌*◌, ◌/◌, ◌%◌, ◌≤◌, ◌<◌, length, replicate, eqb}
+use Rattle.std.specs.Prelude.{◌≡◌, true, false, cond, List, [], ◌∷◌, ◌++◌, ℕ, ◌+◌, ◌*◌, ◌/◌, ◌%◌, ◌≤◌, ◌<◌, length, replicate, eqb, Some, None, Ok, Err, Option}
 use Rattle.octets.specs.Numbers.{Octets, octet, word16, word32, octets16}
 use Rattle.octets.specs.Copy.{between}
 use Rattle.fields.specs.Fields.{apid_of}
@@ -7,8 +7,7 @@ use Rattle.crc.specs.Register.{crc_of}
 use Rattle.checks.specs.declared.Check.{Check}
 use Rattle.checks.specs.declared.Check.TheVariants.{Buffer, Caller, Short, Length, Control, Header, Apid, Service, Subtype, Form, Memory, Right, Outside}
 use Rattle.checks.specs.declared.Refusal.{Refusal}
-use Rattle.checks.specs.declared.Verdict.{Verdict}
-use Rattle.checks.specs.declared.Verdict.TheVariants.{Accepted, Refused}
+use Rattle.checks.specs.Verdict.{Verdict}
 use Rattle.checks.specs.Table.{Row, First, AllHold}
 use Rattle.checks.specs.Verdict.{check_number}
 use Rattle.tc.specs.Layout.{around, packet_most, category, covered, right_control, fields_of, application_of}
@@ -16,20 +15,17 @@ use Rattle.heading.specs.Heading.{header_fault}
 use Rattle.reader.specs.Reader.{least_octets}
 use Rattle.map.specs.declared.Area.{Area}
 use Rattle.map.specs.declared.Profile.{Profile}
-use Rattle.map.specs.declared.Found.TheVariants.{At, Nothing}
 use Rattle.map.specs.Place.{used, find_in, inside}
 use Rattle.requests.specs.declared.Request.TheVariants.{Memory as Asks, Connection}
 use Rattle.requests.specs.declared.Action.{Action}
-use Rattle.requests.specs.declared.Asked.{Asked}
-use Rattle.requests.specs.declared.Asked.TheVariants.{Known, Unknown}
+use Rattle.requests.specs.declared.Request.{Request}
 use Rattle.requests.specs.Request.{serves, asked_for, offers, right_for, inside_of}
 use Rattle.serving.specs.Services.{Formed}
 use Rattle.addressing.specs.Requested.{asked_by}
 use Rattle.decide.specs.Table.{packet_rows}
 use Rattle.decide.specs.Octets.{block_numbered, octets_of}
 use Rattle.explaining.specs.declared.Reason.{Reason}
-use Rattle.explaining.specs.declared.Explanation.{Explanation}
-use Rattle.explaining.specs.declared.Explanation.TheVariants.{Accepted as Fine, Because}
+use Rattle.explaining.specs.Explanation.{Explanation}
 use Rattle.explaining.specs.Explanation.{explanation_of}
 use Rattle.demands.specs.Cases.{command, block, first_line, second_line}
 
@@ -51,23 +47,23 @@ abbrev pub right_bits : ℕ → ℕ
 right_bits detail = cond (eqb detail 1) 0 (cond (eqb detail 4) 3 (cond (eqb detail 5) 0 1))
 
 -- 5: they are not the application data of what is asked for.
-abbrev pub NotFormed : Asked → List ℕ → Type 0
-NotFormed (Known (Asks action)) s = Formed action s → ⊥
-NotFormed (Known Connection) s = s ≡ [] → ⊥
-NotFormed Unknown s = ⊥
+abbrev pub NotFormed : Option Request → List ℕ → Type 0
+NotFormed (Some (Asks action)) s = Formed action s → ⊥
+NotFormed (Some Connection) s = s ≡ [] → ⊥
+NotFormed None s = ⊥
 
 -- 18: the area with the memory ID that they are lacks the right for what is asked.
-pub record Lacks (p : Profile) (asked : Asked) (id : ℕ) : Type 0 where
+pub record Lacks (p : Profile) (asked : Option Request) (id : ℕ) : Type 0 where
   pub area : Area
-  pub named : find_in id (used p) ≡ At area
+  pub named : find_in id (used p) ≡ Some area
   pub action : Action
-  pub asks : asked ≡ Known (Asks action)
+  pub asks : asked ≡ Some (Asks action)
   pub lacks : right_for area.rights action ≡ false
 
 -- 19: the block whose start and length they are is not wholly inside the area that the packet names, and every block before it is.
 pub record NotInside (p : Profile) (packet : List ℕ) (number : ℕ) (s : List ℕ) : Type 0 where
   pub area : Area
-  pub named : find_in (octet packet 10) (used p) ≡ At area
+  pub named : find_in (octet packet 10) (used p) ≡ Some area
   pub start : word32 s 0 ≡ (block_numbered packet number).start
   pub words : word16 s 4 ≡ (block_numbered packet number).words
   pub outside : inside area (word32 s 0) (word16 s 4) ≡ false
@@ -85,7 +81,7 @@ Wrong p packet Apid detail s = (detail ≡ word16 s 0 % 2048) × (detail ≡ api
 Wrong p packet Service detail s = (detail ≡ octet s 0) × (serves p.flags detail ≡ false)
 Wrong p packet Subtype detail s = (detail ≡ word16 s 0) × (offers p.flags (asked_for (octet s 0) (octet s 1)) ≡ false)
 Wrong p packet Form detail s = (s ≡ application_of packet) × NotFormed (asked_by (fields_of packet)) s
-Wrong p packet Memory detail s = (detail ≡ octet s 0) × (find_in detail (used p) ≡ Nothing)
+Wrong p packet Memory detail s = (detail ≡ octet s 0) × (find_in detail (used p) ≡ None)
 Wrong p packet Right detail s = (detail ≡ octet s 0) × Lacks p (asked_by (fields_of packet)) detail
 Wrong p packet Outside detail s = NotInside p packet detail s
 
@@ -114,15 +110,15 @@ pub record Tells (p : Profile) (packet : List ℕ) (e : Reason) : Type 0 where
 
 -- The demand: whatever is said of a packet is so.
 pub record Explains (f : Explainer) : Type 0 where
-  pub accepted : (p : Profile) (packet : List ℕ) → Octets packet → f p packet ≡ Fine → AllHold (packet_rows p packet)
-  pub refused : (p : Profile) (packet : List ℕ) → Octets packet → (e : Reason) → f p packet ≡ Because e → Tells p packet e
+  pub accepted : (p : Profile) (packet : List ℕ) → Octets packet → f p packet ≡ Ok tt → AllHold (packet_rows p packet)
+  pub refused : (p : Profile) (packet : List ℕ) → Octets packet → (e : Reason) → f p packet ≡ Err e → Tells p packet e
 
 -- What is said of a packet and a verdict on it have the same number and detail.
 abbrev pub AgreesWith : Explanation → Verdict → Type 0
-AgreesWith Fine Accepted = Unit
-AgreesWith Fine (Refused r) = ⊥
-AgreesWith (Because e) Accepted = ⊥
-AgreesWith (Because e) (Refused r) = (e.number ≡ check_number r.check) × (e.detail ≡ r.detail)
+AgreesWith (Ok _) (Ok _) = Unit
+AgreesWith (Ok _) (Err r) = ⊥
+AgreesWith (Err e) (Ok _) = ⊥
+AgreesWith (Err e) (Err r) = (e.number ≡ check_number r.check) × (e.detail ≡ r.detail)
 
 -- ---- wrong explainers
 
@@ -132,15 +128,15 @@ SaysTheSame e f = (p : Profile) (packet : List ℕ) → f p packet ≡ e
 
 -- Shows for 19 the first block, whichever is outside.
 abbrev pub ShowsFirstBlock : Explainer → Type 0
-ShowsFirstBlock f = (p : Profile) (packet : List ℕ) (e : Reason) → f p packet ≡ Because e → e.number ≡ 19 → e.first ≡ 12
+ShowsFirstBlock f = (p : Profile) (packet : List ℕ) (e : Reason) → f p packet ≡ Err e → e.number ≡ 19 → e.first ≡ 12
 
 -- Takes each block for 6 octets, as those of a dump are, whatever words stand behind it.
 abbrev pub SkipsNoWords : Explainer → Type 0
-SkipsNoWords f = (p : Profile) (packet : List ℕ) (e : Reason) → f p packet ≡ Because e → e.number ≡ 19 → e.first ≡ 6 + 6 * e.detail
+SkipsNoWords f = (p : Profile) (packet : List ℕ) (e : Reason) → f p packet ≡ Err e → e.number ≡ 19 → e.first ≡ 6 + 6 * e.detail
 
 -- Looks at the header before the error control, so that a packet that is wrong in both is told 16.
 abbrev pub HeaderFirst : Explainer → Type 0
-HeaderFirst f = (p : Profile) (packet : List ℕ) (e : Reason) → f p packet ≡ Because e → e.number ≡ 2 → header_fault packet ≡ 0
+HeaderFirst f = (p : Profile) (packet : List ℕ) (e : Reason) → f p packet ≡ Err e → e.number ≡ 2 → header_fault packet ≡ 0
 
 -- ---- examples
 
@@ -206,5 +202,5 @@ wrong_in_both = 0x38 ∷ 0x5C ∷ 0xC0 ∷ 0x00 ∷ 0x00 ∷ 0x05 ∷ 0x19 ∷ 0
 
 -- What is said, as numbers.
 abbrev pub numbers_in : Explanation → List ℕ
-numbers_in Fine = []
-numbers_in (Because e) = e.number ∷ e.detail ∷ e.first ∷ e.last ∷ []
+numbers_in (Ok _) = []
+numbers_in (Err e) = e.number ∷ e.detail ∷ e.first ∷ e.last ∷ []

@@ -1,15 +1,13 @@
 -- Document 01, "Numbers to hold it to": P1 to P10 as a single listing.
-use Rattle.std.specs.Prelude.{◌≡◌, Bool, true, false, cond, List, [], ◌∷◌, ◌++◌, ℕ, length, replicate}
+use Rattle.std.specs.Prelude.{◌≡◌, Bool, true, false, cond, List, [], ◌∷◌, ◌++◌, ℕ, length, replicate, Ok, Err, Result}
 use Rattle.crc.specs.Register.{crc_of}
-use Rattle.checks.specs.declared.Verdict.{Verdict}
+use Rattle.checks.specs.Verdict.{Verdict}
 use Rattle.checks.specs.Verdict.{is_accepted, number_of, detail_of}
 use Rattle.heading.specs.Heading.{length_right}
 use Rattle.map.specs.declared.Profile.{Profile}
 use Rattle.map.specs.Made.{all_flags, area_of, profile_with}
 use Rattle.map.specs.Place.{inside}
 use Rattle.wider.specs.Wider.{wider}
-use Rattle.blocks.specs.declared.Form.{Form}
-use Rattle.blocks.specs.declared.Form.TheVariants.{Right, Wrong}
 use Rattle.blocks.specs.Form.{form_of}
 use Rattle.counts.specs.Counts.{next_count}
 use Rattle.decide.specs.declared.State.{State}
@@ -55,9 +53,9 @@ abbrev pub told : Verdict → List ℕ
 told v = cond (is_accepted v) [] (number_of v ∷ detail_of v ∷ [])
 
 -- The detail of data that is not well formed; nothing where it is.
-abbrev pub malformed : Form → List ℕ
-malformed Right = []
-malformed (Wrong k) = k ∷ []
+abbrev pub malformed : Result Unit ℕ → List ℕ
+malformed (Ok _) = []
+malformed (Err k) = k ∷ []
 
 -- The counts of categories 1 and 9.
 abbrev pub counts : State → List ℕ

@@ -6,7 +6,7 @@ use Rattle.reader.specs.declared.Reading.{Reading}
 use Rattle.tc.specs.Layout.{category, method_of}
 use Rattle.reader.specs.Reader.{reading_of}
 use Rattle.writer.specs.declared.Order.{Order}
-use Rattle.writer.specs.declared.Written.{Written}
+use Rattle.writer.specs.Writer.{Written}
 use Rattle.writer.specs.Writer.{written_of, buffer_after}
 
 -- A reader: what it returns of a packet.

@@ -1,22 +1,19 @@
 -- The inspector's first demand, of any terminal, reader and writer: "Bad packets, bad memory maps and short buffers are refused by the number in document 01. A refusal changes no memory word, and its reports and counters are those the table states." (That ours end on every input without a fault is what the check of each crate's code proves.)
-use Rattle.std.specs.Prelude.{◌≡◌, Bool, true, false, List, [], ◌∷◌, ◌++◌, map, ℕ, ◌+◌, ◌≤◌, ◌<◌, length, drop}
+use Rattle.std.specs.Prelude.{◌≡◌, Bool, true, false, List, [], ◌∷◌, ◌++◌, map, ℕ, ◌+◌, ◌≤◌, ◌<◌, length, drop, Some, None, Ok, Err, Option}
 use Rattle.laws.specs.Each.{among}
 use Rattle.checks.specs.declared.Refusal.{Refusal}
-use Rattle.checks.specs.declared.Verdict.{Verdict}
-use Rattle.checks.specs.declared.Verdict.TheVariants.{Accepted, Refused}
+use Rattle.checks.specs.Verdict.{Verdict}
 use Rattle.checks.specs.Verdict.{check_number, is_accepted, number_of, detail_of}
 use Rattle.checks.specs.Table.{Row, First, AllHold}
 use Rattle.tc.specs.Layout.{around, data_most}
 use Rattle.reader.specs.Reader.{reader_rows, no_fields}
 use Rattle.writer.specs.declared.Order.{Order}
-use Rattle.writer.specs.declared.Written.TheVariants.{Packet}
 use Rattle.writer.specs.Writer.{written_number, fields_right, is_packet}
 use Rattle.counts.specs.Counts.{advanced}
 use Rattle.tm.specs.Frame.{frame_of, time_of}
 use Rattle.reports.specs.Source.{echo_of, failure}
 use Rattle.requests.specs.declared.Request.TheVariants.{Memory, Connection}
-use Rattle.requests.specs.declared.Asked.{Asked}
-use Rattle.requests.specs.declared.Asked.TheVariants.{Known, Unknown}
+use Rattle.requests.specs.declared.Request.{Request}
 use Rattle.terminal.specs.Outcome.{Input}
 use Rattle.terminal.specs.Run.{Answer}
 use Rattle.demands.specs.Terminal.{Terminal, rows_on, asked_on}
@@ -29,13 +26,13 @@ abbrev pub numbers_of : List (Row Refusal) → List ℕ
 numbers_of table = map (λ (r : Row Refusal). check_number r.refusal.check) table
 
 -- The numbers of the checks that a service adds: for service 6 there is a 5 for the head of its data and one for the blocks.
-abbrev pub service_numbers : Asked → List ℕ
-service_numbers (Known (Memory action)) = 5 ∷ 5 ∷ 17 ∷ 18 ∷ 19 ∷ []
-service_numbers (Known Connection) = 5 ∷ []
-service_numbers Unknown = []
+abbrev pub service_numbers : Option Request → List ℕ
+service_numbers (Some (Memory action)) = 5 ∷ 5 ∷ 17 ∷ 18 ∷ 19 ∷ []
+service_numbers (Some Connection) = 5 ∷ []
+service_numbers None = []
 
 -- The numbers of the whole table, in checking order.
-abbrev pub table_numbers : Asked → List ℕ
+abbrev pub table_numbers : Option Request → List ℕ
 table_numbers asked = 40 ∷ 41 ∷ 42 ∷ 1 ∷ 2 ∷ 16 ∷ 0 ∷ 3 ∷ 4 ∷ service_numbers asked
 
 -- A verdict refuses by a number.
@@ -48,8 +45,8 @@ FirstIs n table = (r : Row Refusal) × First table r × (check_number r.refusal.
 
 -- A table decides a verdict: its first check that fails gives number and detail, acceptance is given where none fails, and "each number is given exactly when its check is the first that fails".
 pub record Decides (table : List (Row Refusal)) (v : Verdict) : Type 0 where
-  pub refuses : (r : Row Refusal) → First table r → v ≡ Refused r.refusal
-  pub accepts : AllHold table → v ≡ Accepted
+  pub refuses : (r : Row Refusal) → First table r → v ≡ Err r.refusal
+  pub accepts : AllHold table → v ≡ Ok tt
   pub when : (n : ℕ) → FirstIs n table → Given n v
   pub only : (n : ℕ) → Given n v → FirstIs n table
 
@@ -92,7 +89,7 @@ InOrder = (i : Input) → numbers_of (rows_on i) ≡ table_numbers (asked_on i)
 
 -- What is not known is never accepted by a terminal: the table of such a packet ends with 4.
 abbrev pub UnknownRefused : Terminal → Type 0
-UnknownRefused f = (i : Input) → asked_on i ≡ Unknown → is_accepted (f i).outcome.verdict ≡ false
+UnknownRefused f = (i : Input) → asked_on i ≡ None → is_accepted (f i).outcome.verdict ≡ false
 
 -- ---- the reader and the writer
 
@@ -114,5 +111,5 @@ pub record WriterRefuses (w : Writer) : Type 0 where
   pub data_51 : (o : Order) (data' buffer : List ℕ) → fields_right o ≡ true → data_most < length data' → written_number (w o data' buffer).answer ≡ 51
   pub room_52 : (o : Order) (data' buffer : List ℕ) → fields_right o ≡ true → length data' ≤ data_most → length buffer < length data' + around
       → written_number (w o data' buffer).answer ≡ 52
-  pub accepts : (o : Order) (data' buffer : List ℕ) → Writable o data' buffer → (w o data' buffer).answer ≡ Packet (length data' + around)
+  pub accepts : (o : Order) (data' buffer : List ℕ) → Writable o data' buffer → (w o data' buffer).answer ≡ Ok (length data' + around)
   pub keeps : (o : Order) (data' buffer : List ℕ) → is_packet (w o data' buffer).answer ≡ false → (w o data' buffer).buffer ≡ buffer

@@ -1,18 +1,15 @@
 -- The inspector's second demand, of any terminal, reader and writer: "Reports, counters and memory after each packet are exactly those of the rules in document 01 [..]. A packet written from valid fields reads back as those fields. A packet that reads cleanly, with the ordinary category, checksum flag and pad, is written back as the same octets." Since document 02, wish 3, the checksum flag is any: "reading and writing back no longer need flag 1". (After a refused packet: Refusing.)
-use Rattle.std.specs.Prelude.{◌≡◌, true, ℕ, ◌+◌, ◌≤◌, length, take, drop}
+use Rattle.std.specs.Prelude.{◌≡◌, true, ℕ, ◌+◌, ◌≤◌, length, take, drop, Some, Ok}
 use mathlib.Core.List.{List, [], ◌∷◌, ◌++◌, Memᴰ}
 use Rattle.laws.specs.Each.{Each}
 use Rattle.laws.specs.Fold.{joined}
 use Rattle.octets.specs.Numbers.{Octets, octet}
-use Rattle.checks.specs.declared.Verdict.TheVariants.{Accepted}
 use Rattle.checks.specs.Verdict.{is_accepted}
 use Rattle.tc.specs.Layout.{around, fields_of, application_of}
 use Rattle.writer.specs.declared.Order.{Order}
-use Rattle.writer.specs.declared.Written.TheVariants.{Packet}
 use Rattle.writer.specs.Writer.{fields_for}
 use Rattle.map.specs.declared.Area.{Area}
 use Rattle.map.specs.declared.Profile.{Profile}
-use Rattle.map.specs.declared.Found.TheVariants.{At}
 use Rattle.map.specs.Place.{used, Off}
 use Rattle.blocks.specs.declared.Block.{Block}
 use Rattle.blocks.specs.Blocks.{blocks_of}
@@ -20,7 +17,6 @@ use Rattle.counts.specs.Counts.{in_range}
 use Rattle.tm.specs.Frame.{Report, frames_of, frame_size, time_of}
 use Rattle.requests.specs.declared.Action.TheVariants.{Load}
 use Rattle.requests.specs.declared.Request.TheVariants.{Memory}
-use Rattle.requests.specs.declared.Asked.TheVariants.{Known}
 use Rattle.requests.specs.Request.{carried_by, area_named}
 use Rattle.laying.specs.Reports.{echo, asked, asks_acceptance, asks_completion}
 use Rattle.terminal.specs.Outcome.{Input, done_by, state_after, verdict_on}
@@ -67,10 +63,10 @@ pub record Bounded (i : Input) (a : Answer) : Type 0 where
 -- The demand of a terminal. Which packets are accepted, the table says and not the terminal.
 pub record Reports (f : Terminal) : Type 0 where
   pub serves : (i : Input) → is_accepted (verdict_on i) ≡ true → Serves i (f i)
-  pub loads : (i : Input) (x : Area) → is_accepted (verdict_on i) ≡ true → asked_on i ≡ Known (Memory Load)
-      → area_named i.profile (application_of i.packet) ≡ At x → Loads x (application_of i.packet) i.store (f i).store
-  pub gives_back : (i : Input) (x : Area) (before : List Block) (b c : Block) → is_accepted (verdict_on i) ≡ true → asked_on i ≡ Known (Memory Load)
-      → area_named i.profile (application_of i.packet) ≡ At x → blocks_of (carried_by Load) (application_of i.packet) ≡ before ++ b ∷ []
+  pub loads : (i : Input) (x : Area) → is_accepted (verdict_on i) ≡ true → asked_on i ≡ Some (Memory Load)
+      → area_named i.profile (application_of i.packet) ≡ Some x → Loads x (application_of i.packet) i.store (f i).store
+  pub gives_back : (i : Input) (x : Area) (before : List Block) (b c : Block) → is_accepted (verdict_on i) ≡ true → asked_on i ≡ Some (Memory Load)
+      → area_named i.profile (application_of i.packet) ≡ Some x → blocks_of (carried_by Load) (application_of i.packet) ≡ before ++ b ∷ []
       → c.start ≡ b.start → c.words ≡ b.words → GivesBack x (application_of i.packet) (f i).store b c
   pub bounded : (i : Input) → Bounded i (f i)
 
@@ -85,19 +81,19 @@ RunServes p m (s ∷ steps) (a ∷ given) =
 
 -- The demand of a writer and a reader on an order that can be written: the packet's octets alone are touched, and they read back as the order's fields and the data.
 pub record ReadsBack (read : Reader) (o : Order) (data' buffer : List ℕ) (x : Write) : Type 0 where
-  pub answer : x.answer ≡ Packet (length data' + around)
-  pub verdict : (read (take (length data' + around) x.buffer)).verdict ≡ Accepted
+  pub answer : x.answer ≡ Ok (length data' + around)
+  pub verdict : (read (take (length data' + around) x.buffer)).verdict ≡ Ok tt
   pub fields : (read (take (length data' + around) x.buffer)).fields ≡ fields_for o
   pub same : handed read (take (length data' + around) x.buffer) ≡ data'
   pub beyond : drop (length data' + around) x.buffer ≡ drop (length data' + around) buffer
 
 -- The demand of a writer on the order and the data of a packet that was read: the same octets, and nothing beyond them changes.
 pub record WritesBack (p buffer : List ℕ) (x : Write) : Type 0 where
-  pub answer : x.answer ≡ Packet (length p)
+  pub answer : x.answer ≡ Ok (length p)
   pub octets : x.buffer ≡ p ++ drop (length p) buffer
 
 -- Both ways.
 pub record RoundTrips (w : Writer) (read : Reader) : Type 0 where
   pub reads_back : (o : Order) (data' buffer : List ℕ) → Writable o data' buffer → ReadsBack read o data' buffer (w o data' buffer)
-  pub writes_back : (p buffer : List ℕ) → Octets p → (read p).verdict ≡ Accepted → Ordinary (read p).fields → length p ≤ length buffer
+  pub writes_back : (p buffer : List ℕ) → Octets p → (read p).verdict ≡ Ok tt → Ordinary (read p).fields → length p ≤ length buffer
       → WritesBack p buffer (w (order_of (read p).fields) (handed read p) buffer)

@@ -1,15 +1,13 @@
 -- Document 01, "Five stand-ins have to be rejected", and other wrong terminals, readers and writers: families, each said by what all of its members do.
-use Rattle.std.specs.Prelude.{◌≡◌, true, false, List, [], ◌∷◌, ℕ, ◌-◌, length, leb}
+use Rattle.std.specs.Prelude.{◌≡◌, true, false, List, [], ◌∷◌, ℕ, ◌-◌, length, leb, Some, Err}
 use Rattle.octets.specs.Numbers.{octet}
 use Rattle.octets.specs.Copy.{laid}
 use Rattle.checks.specs.declared.Check.TheVariants.{Caller}
 use Rattle.checks.specs.declared.Refusal.{Refusal}
-use Rattle.checks.specs.declared.Verdict.{Verdict}
-use Rattle.checks.specs.declared.Verdict.TheVariants.{Refused}
+use Rattle.checks.specs.Verdict.{Verdict}
 use Rattle.checks.specs.Verdict.{is_accepted, refusal}
 use Rattle.map.specs.declared.Area.{Area}
 use Rattle.map.specs.declared.Profile.{Profile}
-use Rattle.map.specs.declared.Found.TheVariants.{At}
 use Rattle.map.specs.Place.{octet_at}
 use Rattle.blocks.specs.declared.Block.{Block}
 use Rattle.blocks.specs.Blocks.{blocks_of, words_of}
@@ -57,7 +55,7 @@ Invents f = (i : Input) × ((f i).outcome.written ≡ length (octets_due i) → 
 -- Two of them, for every refusal and every report that they could be made of, with a state and a store of their own: these have demand 3's agreement.
 abbrev pub refuses_by : (List ℕ → Refusal) → Terminal
 refuses_by by i =
-    let v : Verdict = Refused (by i.packet) in
+    let v : Verdict = Err (by i.packet) in
     let reports : List Report = failed v i.packet ∷ [] in
     let octets : List ℕ = joined (frames_of i.profile.pid (time_of i.time) i.state.counts reports) in
     record {
@@ -89,13 +87,13 @@ Hasty f = (i : Input) → (f i).store ≡ (done_by i.profile i.packet i.store).s
 
 -- Leaves the words of the first block, also where a later block overlaps it.
 abbrev pub FirstStays : Terminal → Type 0
-FirstStays f = (i : Input) (x : Area) (k : ℕ) (b : Block) (rest : List Block) → area_named i.profile (application_of i.packet) ≡ At x
+FirstStays f = (i : Input) (x : Area) (k : ℕ) (b : Block) (rest : List Block) → area_named i.profile (application_of i.packet) ≡ Some x
     → blocks_of (carried_by Load) (application_of i.packet) ≡ b ∷ rest → Over x k b
     → octet (f i).store k ≡ octet (words_of (application_of i.packet) b) (k - octet_at x b.start)
 
 -- Refuses every profile of two areas or more, and is right about the others.
 pub record Picky (f : Terminal) : Type 0 where
-  pub many : (i : Input) → leb 2 i.profile.count ≡ true → (f i).outcome.verdict ≡ Refused (refusal Caller 0)
+  pub many : (i : Input) → leb 2 i.profile.count ≡ true → (f i).outcome.verdict ≡ Err (refusal Caller 0)
   pub few : (i : Input) → leb 2 i.profile.count ≡ false → f i ≡ reference i
 
 -- Has one count for both categories.

@@ -1,13 +1,11 @@
 -- The second demand with document 02's wish 1, of any reader of frames and any terminal: "What the terminal writes reads back as the same fields; what reads cleanly is a frame by 01's TM layouts, whatever values service 1 carries in them. [..] Refusals, in order: 60 [..], 61 [..], 62 [..], 63 [..]."
-use Rattle.std.specs.Prelude.{◌≡◌, false, List, [], ◌∷◌, map, ℕ, take}
+use Rattle.std.specs.Prelude.{◌≡◌, false, List, [], ◌∷◌, map, ℕ, take, Ok, Err, None}
 use Rattle.octets.specs.Numbers.{Octets}
 use Rattle.octets.specs.Copy.{placed}
 use Rattle.checks.specs.Table.{Row, First, AllHold}
 use Rattle.tm.specs.Frame.{cut}
-use Rattle.contents.specs.declared.Contents.TheVariants.{Nothing}
 use Rattle.tmreader.specs.declared.Flaw.{Flaw}
-use Rattle.tmreader.specs.declared.Verdict.{Verdict}
-use Rattle.tmreader.specs.declared.Verdict.TheVariants.{Clean, Refused}
+use Rattle.tmreader.specs.Reader.{Verdict}
 use Rattle.tmreader.specs.Reader.{flaw_number, is_clean, number_of, frame_rows, no_stamp}
 use Rattle.tmreader.specs.Telling.{FrameReader, IsFrame}
 use Rattle.terminal.specs.Outcome.{Input}
@@ -27,8 +25,8 @@ FirstHas n table = (r : Row Flaw) × First table r × (flaw_number r.refusal ≡
 
 -- A table decides a verdict on a frame: its first check that fails gives the number, it is clean where none fails, and each number is given exactly when its check is the first that fails.
 pub record DecidesFrame (table : List (Row Flaw)) (v : Verdict) : Type 0 where
-  pub refuses : (r : Row Flaw) → First table r → v ≡ Refused r.refusal
-  pub passes : AllHold table → v ≡ Clean
+  pub refuses : (r : Row Flaw) → First table r → v ≡ Err r.refusal
+  pub passes : AllHold table → v ≡ Ok tt
   pub when : (n : ℕ) → FirstHas n table → RefusedBy n v
   pub only : (n : ℕ) → RefusedBy n v → FirstHas n table
 
@@ -43,8 +41,8 @@ pub record ReadsFrames (read : FrameReader) : Type 0 where
   pub decides : (f : List ℕ) → DecidesFrame (frame_rows f) (read f).verdict
   pub no_stamp_lem : (f : List ℕ) → is_clean (read f).verdict ≡ false → (read f).stamp ≡ no_stamp
   pub no_source : (f : List ℕ) → is_clean (read f).verdict ≡ false → placed (read f).source f ≡ []
-  pub no_contents : (f : List ℕ) → is_clean (read f).verdict ≡ false → (read f).contents ≡ Nothing
-  pub frames : (f : List ℕ) → Octets f → (read f).verdict ≡ Clean → IsFrame read f
+  pub no_contents : (f : List ℕ) → is_clean (read f).verdict ≡ false → (read f).contents ≡ None
+  pub frames : (f : List ℕ) → Octets f → (read f).verdict ≡ Ok tt → IsFrame read f
 
 -- Of a terminal and a reader: the frames that stand at the front of the output buffer, cut by their length fields, are read back, one for each thing that the packet is told, each with its own stamp and contents.
 abbrev pub FramesReadBack : Terminal → FrameReader → Type 0

@@ -1,11 +1,11 @@
 -- Any terminal at all, and its answers to packets in turn. The terminal of document 01 is one of them.
-use Rattle.std.specs.Prelude.{List, length}
+use Rattle.std.specs.Prelude.{List, length, Option}
 use Rattle.laws.specs.Fold.{answers}
 use Rattle.checks.specs.declared.Refusal.{Refusal}
 use Rattle.checks.specs.Table.{Row}
 use Rattle.tc.specs.Layout.{fields_of}
 use Rattle.map.specs.declared.Profile.{Profile}
-use Rattle.requests.specs.declared.Asked.{Asked}
+use Rattle.requests.specs.declared.Request.{Request}
 use Rattle.addressing.specs.Requested.{asked_by}
 use Rattle.decide.specs.Table.{rows}
 use Rattle.terminal.specs.Outcome.{Input, outcome_of, out_after, store_on}
@@ -24,7 +24,7 @@ abbrev pub rows_on : Input → List (Row Refusal)
 rows_on i = rows i.profile i.state (length i.store) (length i.out) i.packet
 
 -- What a packet asks for.
-abbrev pub asked_on : Input → Asked
+abbrev pub asked_on : Input → Option Request
 asked_on i = asked_by (fields_of i.packet)
 
 -- What a terminal's own answer leaves for the next packet.

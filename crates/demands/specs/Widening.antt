@@ -2,7 +2,7 @@
 use Rattle.std.specs.Prelude.{◌≡◌, Bool, true, false, cond, ◌⊎◌, List, [], ◌∷◌, ◌++◌, ℕ, suc, ◌≤◌, length, eqb}
 use Rattle.laws.specs.Each.{among}
 use Rattle.octets.specs.Numbers.{octets16}
-use Rattle.checks.specs.declared.Verdict.{Verdict}
+use Rattle.checks.specs.Verdict.{Verdict}
 use Rattle.checks.specs.Verdict.{is_accepted, number_of, detail_of}
 use Rattle.map.specs.declared.Profile.{Profile}
 use Rattle.wider.specs.Wider.{wider}

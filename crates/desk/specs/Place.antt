@@ -1,5 +1,5 @@
 -- What goes from line to line in a program over lines: its desk, the store and the output buffer.
-use Rattle.std.specs.Prelude.{ℕ, Bool, true, not, List, ◌==◌}
+use Rattle.std.specs.Prelude.{ℕ, Bool, true, List, None, Some, is_some}
 use Rattle.std.specs.Borrow.{MutBor}
 use Rattle.map.specs.declared.Profile.{Profile}
 use Rattle.counts.specs.Counts.{no_counts}
@@ -8,7 +8,6 @@ use Rattle.unit.specs.declared.Draft.{Draft}
 use Rattle.lineunit.specs.Unit.{line_profile}
 use Rattle.hexline.specs.Line.{Station}
 use Rattle.packline.specs.declared.Halt.{Halt}
-use Rattle.packline.specs.Record.{goes_on}
 use Rattle.grouping.specs.declared.Group.{Group}
 use Rattle.grouping.specs.Group.{next_number, no_group}
 use Rattle.desk.specs.declared.Desk.{Desk}
@@ -25,7 +24,7 @@ place_of desk store out = record { desk = desk; store = store.now; out = out.now
 
 -- A desk before the first line: counts of 0, no line passed, no group, nothing that stops the program.
 abbrev pub desk_for : Draft → Desk
-desk_for draft = record { draft = draft; state = record { counts = no_counts }; number = 0; group = no_group; halt = goes_on }
+desk_for draft = record { draft = draft; state = record { counts = no_counts }; number = 0; group = no_group; halt = None }
 
 -- The line program's unit, all of it stated: its profile, and a store of 128 octets.
 abbrev pub line_draft : Draft
@@ -52,11 +51,11 @@ abbrev pub counted : Desk → Desk
 counted d = record { draft = d.draft; state = d.state; number = next_number d.number; group = d.group; halt = d.halt }
 
 abbrev pub halting : Desk → Halt → Desk
-halting d halt = record { draft = d.draft; state = d.state; number = d.number; group = d.group; halt = halt }
+halting d halt = record { draft = d.draft; state = d.state; number = d.number; group = d.group; halt = Some halt }
 
 -- Whether the program has stopped.
 abbrev pub is_halted : Desk → Bool
-is_halted d = not (d.halt.kind == 0)
+is_halted d = is_some d.halt
 
 -- A place with another desk, one line further, or with what the terminal left.
 abbrev pub at_desk : Place → Desk → Place

@@ -2,13 +2,12 @@
 #![tactic(auto)]
 
 ghost use Rattle.std.specs.Prelude.{◌≡◌, ◌+◌, min, length};
-ghost use Rattle.packline.specs.Record.{goes_on};
 ghost use Rattle.desk.specs.Place.{desk_for, line_draft, with_draft, with_state, with_group, is_halted};
 ghost use Rattle.desk.specs.Place.{counted as Counted, halting as Halting};
 
 use decide::State;
 use grouping::Group;
-use packline::{GOES_ON, Halt};
+use packline::Halt;
 use unit::Draft;
 
 // How many octets the line program's store has.
@@ -21,7 +20,7 @@ pub struct Desk {
     pub state: State,
     pub number: u64,
     pub group: Group,
-    pub halt: Halt,
+    pub halt: Option<Halt>,
 }
 
 // How far the text has come, and what goes on.
@@ -29,17 +28,6 @@ pub struct Desk {
 pub struct Done {
     pub at: usize,
     pub desk: Desk,
-}
-
-// Nothing stops the program.
-fn goes_on() -> Halt
-    ensures { result ≡ goes_on }
-{
-    Halt {
-        kind: GOES_ON,
-        place: 0,
-        octet: 0,
-    }
 }
 
 // Before the first line.
@@ -53,7 +41,7 @@ pub fn start(draft: Draft) -> Desk
         },
         number: 0,
         group: grouping::start(),
-        halt: goes_on(),
+        halt: None,
     }
 }
 
@@ -75,63 +63,56 @@ pub fn line_start() -> Desk
 pub fn is_halted(d: Desk) -> bool
     ensures { result ≡ is_halted d }
 {
-    let halt = d.halt;
-    halt.kind != GOES_ON
+    d.halt.is_some()
 }
 
 // The desk with another unit.
 pub fn with_draft(d: Desk, draft: Draft) -> Desk
     ensures { result ≡ with_draft d draft }
 {
-    let mut next = d;
-    next.draft = draft;
-    next
+    Desk { draft, ..d }
 }
 
 // The desk with other counts.
 pub fn with_state(d: Desk, state: State) -> Desk
     ensures { result ≡ with_state d state }
 {
-    let mut next = d;
-    next.state = state;
-    next
+    Desk { state, ..d }
 }
 
 // The desk at another place of a record.
 pub fn with_group(d: Desk, group: Group) -> Desk
     ensures { result ≡ with_group d group }
 {
-    let mut next = d;
-    next.group = group;
-    next
+    Desk { group, ..d }
 }
 
 // The desk one line further, counted in 64 bits.
 pub fn counted(d: Desk) -> Desk
     ensures { result ≡ Counted d }
 {
-    let mut next = d;
-    next.number = std::num::wrapping_add_u64(d.number, 1);
-    next
+    Desk {
+        number: d.number.wrapping_add(1),
+        ..d
+    }
 }
 
 // The desk one line further, at another place of a record.
 pub fn moved(d: Desk, group: Group) -> Desk
     ensures { result ≡ with_group (Counted d) group }
 {
-    let mut further = d;
-    further.number = std::num::wrapping_add_u64(d.number, 1);
-    further.group = group;
-    further
+    let number = d.number.wrapping_add(1);
+    Desk { number, group, ..d }
 }
 
 // The desk with a reason to stop.
 pub fn halting(d: Desk, halt: Halt) -> Desk
     ensures { result ≡ Halting d halt }
 {
-    let mut next = d;
-    next.halt = halt;
-    next
+    Desk {
+        halt: Some(halt),
+        ..d
+    }
 }
 
 // Nothing is said.

@@ -35,7 +35,7 @@ fn put_timed(due: &[u8], line: &[u8], text: &mut [u8], at: usize) -> usize
 fn put_due(due: &[u8], line: &[u8], text: &mut [u8], at: usize) -> usize
     ensures { SaysBy (due_text due.now line.now) at text result }
 {
-    if due.len() == 0 {
+    if due.is_empty() {
         return saying::text(text, at, b"nothing");
     }
     if DIGITS * TIME_END <= line.len() {
@@ -48,7 +48,7 @@ fn put_due(due: &[u8], line: &[u8], text: &mut [u8], at: usize) -> usize
 fn put_found(line: &[u8], text: &mut [u8], at: usize) -> usize
     ensures { SaysBy (found_text line.now) at text result }
 {
-    if line.len() == 0 {
+    if line.is_empty() {
         return saying::text(text, at, b"nothing");
     }
     saying::upper(text, at, line)
@@ -70,10 +70,7 @@ fn put_both(due: &[u8], line: &[u8], text: &mut [u8], at: usize) -> usize
 fn put_octet(due: &[u8], line: &[u8], text: &mut [u8], at: usize) -> usize
     ensures { SaysBy (octet_line due.now line.now) at text result }
 {
-    if due.len() == 0 {
-        return saying::kept(text, at);
-    }
-    if line.len() == 0 {
+    if due.is_empty() || line.is_empty() {
         return saying::kept(text, at);
     }
     let place = beside::parting(due, line);

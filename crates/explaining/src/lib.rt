@@ -4,7 +4,7 @@
 ghost use Rattle.std.specs.Prelude.{◌≡◌, ◌-◌};
 ghost use Rattle.explaining.specs.Explanation.{reason_for, explanation_of};
 
-use checks::{Refusal, Verdict};
+use checks::Refusal;
 use map::Profile;
 use octets::copy::Span;
 
@@ -18,32 +18,26 @@ pub struct Reason {
 }
 
 // What is said of a packet: it is accepted, or why it is refused.
-#[derive(Clone, Copy)]
-pub enum Explanation {
-    Accepted,
-    Because(Reason),
-}
+pub type Explanation = Result<(), Reason>;
 
 // What is said of a packet under a profile.
+#[tactic(auto, using(crate::proofs::Explained::explained_accepted, crate::proofs::Explained::explained_refused))]
 pub fn explain(profile: Profile, packet: &[u8]) -> Explanation
     ensures { result ≡ explanation_of profile packet.now }
 {
-    let decision = decide::decide_packet(profile, packet);
-    let verdict = decision.verdict;
-    let Verdict::Refused(refusal) = verdict else {
-        return Explanation::Accepted;
-    };
-    Explanation::Because(because(packet, refusal))
+    match decide::decide_packet(profile, packet) {
+        Ok(_) => Ok(()),
+        Err(refusal) => Err(because(packet, refusal)),
+    }
 }
 
 // Why it is refused.
 fn because(packet: &[u8], refusal: Refusal) -> Reason
     ensures { result ≡ reason_for packet.now refusal }
 {
-    let check = refusal.check;
     let octets = decide::looks::octets_of(packet, refusal);
     Reason {
-        number: checks::check_number(check),
+        number: refusal.check.into(),
         detail: refusal.detail,
         first: octets.from,
         last: last(octets),
@@ -54,5 +48,5 @@ fn because(packet: &[u8], refusal: Refusal) -> Reason
 fn last(octets: Span) -> usize
     ensures { result ≡ octets.to - 1 }
 {
-    if octets.to < 1 { 0 } else { octets.to - 1 }
+    octets.to.saturating_sub(1)
 }

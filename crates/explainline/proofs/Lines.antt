@@ -1,5 +1,6 @@
 -- What a line is answered: which answer it has, and how long it is at most.
 -- Assumes nothing.
+use Rattle.std.specs.Prelude.{Ok, Err}
 use mathlib.Core.Path.{◌≡◌, refl, sym}
 use mathlib.Core.Bool.{true, false}
 use mathlib.Core.List.{List, [], ◌∷◌, ◌++◌}
@@ -18,8 +19,7 @@ use Rattle.map.specs.declared.Profile.{Profile}
 use Rattle.hexline.specs.Whole.{answer_room}
 use Rattle.toldtext.specs.Told.{in_decimal}
 use Rattle.explaining.specs.declared.Reason.{Reason}
-use Rattle.explaining.specs.declared.Explanation.{Explanation}
-use Rattle.explaining.specs.declared.Explanation.TheVariants.{Accepted, Because}
+use Rattle.explaining.specs.Explanation.{Explanation}
 use Rattle.explaining.specs.Explanation.{explanation_of}
 use Rattle.explainline.specs.Line.{reason_text, explanation_text, bad_text, explain_says}
 
@@ -44,8 +44,8 @@ reason_most r =
 
 explanation_most : (e : Explanation) → length (explanation_text e) ≤ answer_room
 unfolding text_of
-explanation_most Accepted = omega arith
-explanation_most (Because r) = reason_most r
+explanation_most (Ok _) = omega arith
+explanation_most (Err r) = reason_most r
 
 module _ (p : Profile) (line : List ℕ) where
   -- A line that is no packet line, and one that is.

@@ -1,5 +1,5 @@
 -- docs/EXPLAIN.md: what `explain` prints for a line, and for an input.
-use Rattle.std.specs.Prelude.{cond, List, [], ◌∷◌, ◌++◌, map, ℕ}
+use Rattle.std.specs.Prelude.{cond, List, [], ◌∷◌, ◌++◌, map, ℕ, Ok, Err}
 use Rattle.laws.specs.Fold.{joined}
 use Rattle.characters.specs.Digits.{octets_in}
 use Rattle.lines.specs.Lines.{newline, lines_of}
@@ -9,8 +9,7 @@ use Rattle.packetline.specs.Packet.{is_packet, closing}
 use Rattle.map.specs.declared.Profile.{Profile}
 use Rattle.toldtext.specs.Told.{in_decimal}
 use Rattle.explaining.specs.declared.Reason.{Reason}
-use Rattle.explaining.specs.declared.Explanation.{Explanation}
-use Rattle.explaining.specs.declared.Explanation.TheVariants.{Accepted, Because}
+use Rattle.explaining.specs.Explanation.{Explanation}
 use Rattle.explaining.specs.Explanation.{explanation_of}
 
 -- "In decimal with single spaces": number, detail, first and last offset.
@@ -24,8 +23,8 @@ reason_text r =
 
 -- "An accepted packet prints 0000 alone."
 abbrev pub explanation_text : Explanation → List ℕ
-explanation_text Accepted = closing 0 0
-explanation_text (Because r) = reason_text r
+explanation_text (Ok _) = closing 0 0
+explanation_text (Err r) = reason_text r
 
 -- "Bad lines are treated as by the line program": 0200.
 abbrev pub bad_text : List ℕ

@@ -33,8 +33,8 @@ fn put_explanation(e: Explanation, text: &mut [u8], at: usize) -> usize
     ensures { SaysBy (explanation_text e) at text result }
 {
     match e {
-        Explanation::Accepted => packetline::put_closing(0, 0, text, at),
-        Explanation::Because(reason) => put_reason(reason, text, at),
+        Ok(()) => packetline::put_closing(0, 0, text, at),
+        Err(reason) => put_reason(reason, text, at),
     }
 }
 
@@ -42,8 +42,8 @@ fn put_explanation(e: Explanation, text: &mut [u8], at: usize) -> usize
 fn put_reason(reason: Reason, text: &mut [u8], at: usize) -> usize
     ensures { SaysBy (reason_text reason) at text result }
 {
-    let first = numerals::decimal(text, at, reason.number as u64);
-    let second = toldtext::put_decimal(b" ", reason.detail as u64, text, first);
+    let first = numerals::decimal(text, at, u64::from(reason.number));
+    let second = toldtext::put_decimal(b" ", u64::from(reason.detail), text, first);
     let third = toldtext::put_decimal(b" ", reason.first as u64, text, second);
     let fourth = toldtext::put_decimal(b" ", reason.last as u64, text, third);
     saying::end(text, fourth)

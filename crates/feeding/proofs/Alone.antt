@@ -1,5 +1,6 @@
 -- A program that answers each line by itself, and keeps nothing from line to line: its whole output, however the input is divided.
 -- Assumes nothing.
+use Rattle.std.specs.Prelude.{is_ok}
 use mathlib.Core.Path.{◌≡◌, refl, sym, ap, ap₂, ◌∙◌}
 use mathlib.Core.Bool.{true, false}
 use mathlib.Core.List.{List, [], ◌∷◌, ◌++◌, map}
@@ -13,7 +14,7 @@ use Rattle.lines.specs.Lines.{lines_of}
 use Rattle.lines.specs.Turn.{Turn, last_says, turns_of}
 use Rattle.lines.specs.Feed.{line_says, line_becomes, output_of}
 use Rattle.packetline.specs.Packet.{line_most}
-use Rattle.clauses.specs.Clauses.{is_sound, clause_of}
+use Rattle.clauses.specs.Clauses.{clause_of}
 use Rattle.hexline.specs.Whole.{answer_room}
 use Rattle.frameline.specs.Line.{frame_says, frames_output}
 use Rattle.frameline.proofs.Lines.{says_bad_long}
@@ -78,7 +79,7 @@ stream_explain room n m parts r h =
     stream_alone Explain m (explain_says (profile_at m)) (λ line. refl) (λ line more. sym (explain_long (profile_at m) line more)) (λ line. refl) refl room n parts r h
 
 -- `explain` with a unit file: under the unit that it states, where that is sound, what is said is what is printed for the file and the packets.
-pub stream_under : (file store out : List ℕ) → is_halted (unit_of file) ≡ false → is_sound (clause_of (unit_of file).draft.profile (unit_of file).draft.stored) ≡ true
+pub stream_under : (file store out : List ℕ) → is_halted (unit_of file) ≡ false → is_ok (clause_of (unit_of file).draft.profile (unit_of file).draft.stored) ≡ true
     → (room n : ℕ) (parts : List (List ℕ)) → answer_room ≤ room → length (joined parts) < n
     → (let m : Place = record { desk = desk_for (unit_of file).draft; store = store; out = out } in
     let s : Turn Place = turns_of (piece_program Explain) room true m true [] (parts ++ replicate n []) in

@@ -1,3 +1,4 @@
 pub mod Streaming
 pub mod Lined
 pub mod Alone
+pub mod Units

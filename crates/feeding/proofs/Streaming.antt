@@ -2,23 +2,17 @@
 -- Assumes nothing.
 use mathlib.Core.Path.{◌≡◌}
 use mathlib.Core.Bool.{true}
-use mathlib.Core.List.{List, [], ◌∷◌, ◌++◌}
+use mathlib.Core.List.{List, [], ◌++◌}
 use Prim.Native.Nat.{ℕ, ◌≤◌, ◌<◌}
 use native.Mathlib.Omega.{arith}
 use lib.ListN.{length, replicate}
-use lib.Dec.{leb}
-use Rattle.octets.specs.Numbers.{Octets}
-use Rattle.octets.proofs.Octets.{zero_octets}
 use Rattle.characters.specs.Digits.{text_of}
 use Rattle.laws.specs.Fold.{reached, joined}
-use Rattle.laws.proofs.Tests.{by-test}
 use Rattle.lines.specs.Lines.{lines_of}
 use Rattle.lines.specs.Turn.{Turn, last_says, last_becomes, turns_of}
 use Rattle.lines.specs.Feed.{line_becomes, output_of}
 use Rattle.lines.proofs.Turns.{Fits}
 use Rattle.lines.proofs.Whole.{LineFits, pieces_fit, stream_lines, stream_reached}
-use Rattle.packetline.specs.Packet.{line_most}
-use Rattle.map.specs.Sound.{store_most}
 use Rattle.hexline.specs.Whole.{answer_room}
 use Rattle.hexline.proofs.Serving.{line_answer_most}
 use Rattle.tasks.specs.declared.Task.{Task}
@@ -26,7 +20,6 @@ use Rattle.tasks.specs.declared.Task.TheVariants.{Line, Unit, Pack, Judge, Frame
 use Rattle.desk.specs.declared.Desk.{Desk}
 use Rattle.desk.specs.Place.{Place, profile_at, station_at}
 use Rattle.tasks.specs.Tasks.{task_says, task_long_says, task_program}
-use Rattle.unitstep.proofs.Units.{unit_octets}
 use Rattle.packstep.proofs.Packing.{pack_most, long_most}
 use Rattle.judgestep.proofs.Lengths.{judge_most, judge_long_most}
 use Rattle.frameline.proofs.Lines.{says_most}
@@ -77,18 +70,3 @@ pub stream_unit : (room n : ℕ) (parts : List (List ℕ)) → answer_room ≤ r
     last_becomes (piece_program Unit) s.after s.begins s.left ≡ unit_behind (joined parts))
 unfolding unit_behind
 stream_unit room n parts r h = stream_behind Unit room n unit_first parts r h
-
--- ---- a unit's store
-
--- A store of octets stays one.
-reached_octets : (m : Place) (lines : List (List ℕ)) → Octets m.store → Octets (reached (line_becomes (task_program Unit)) m lines).store
-unfolding reached
-reached_octets m [] h = h
-reached_octets m (l ∷ ls) h =
-    reached_octets (line_becomes (task_program Unit) m l) ls
-    (by-test (leb (length l) line_most) (λ t. rw t (unit_octets m.desk m.store l h)) (λ e. rw e h))
-
--- What a unit file states of its store is octets.
-pub behind_octets : (file : List ℕ) → Octets (unit_behind file).store
-unfolding unit_behind
-behind_octets file = reached_octets unit_first (lines_of file) (zero_octets store_most)

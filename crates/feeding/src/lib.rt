@@ -84,7 +84,7 @@ fn walk(
     };
     let mut d = desk;
     loop {
-        let Cut::Piece(count, end) = lines::next(input, w.from, LINE_MOST) else {
+        let Some(Cut { count, end }) = lines::next(input, w.from, LINE_MOST) else {
             w.open = true;
             return Walked { walk: w, desk: d };
         };
@@ -132,7 +132,7 @@ pub fn finish(
     let l = p.lines;
     let desk = p.desk;
     let rest = lines::front(input, l.have);
-    let Cut::Piece(_, end) = lines::last(rest) else {
+    let Some(Cut { end, .. }) = lines::last(rest) else {
         return Done { at: 0, desk };
     };
     answer_piece(task, desk, l.begins, rest, end, store, out, text, 0)

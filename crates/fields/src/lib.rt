@@ -29,6 +29,7 @@ pub struct Header {
     pub ack: u16,
 }
 
+// Named functions stand here in place of `From`, since each name says which of a packet's words it takes apart or puts together.
 pub fn split_id(id: u16) -> PacketId
     ensures { result ≡ packet_id id }
 {

@@ -6,7 +6,7 @@ use Rattle.fields.specs.Fields.{apid_of}
 use Rattle.characters.specs.Digits.{text_of}
 use Rattle.saying.specs.Text.{space, spaced, line_of}
 use Rattle.counts.specs.Counts.{category_of}
-use Rattle.tmreader.specs.declared.Verdict.{Verdict}
+use Rattle.tmreader.specs.Reader.{Verdict}
 use Rattle.tmreader.specs.declared.Reading.{Reading}
 use Rattle.tmreader.specs.Reader.{is_clean, number_of, reading_of}
 

@@ -11,23 +11,17 @@ use tmreader::{Reading, Verdict};
 fn code_of(v: Verdict) -> [u8; 2]
     ensures { result ≡ code_of v }
 {
-    let number = tmreader::number(v);
-    if tmreader::is_clean(v) {
-        return [0, number];
-    }
-    [1, number]
+    [u8::from(v.is_err()), tmreader::number(v)]
 }
 
 // The APID, and 0 of a refused frame.
 fn apid_in(r: Reading) -> u16
     ensures { result ≡ apid_in r }
 {
-    let stamp = r.stamp;
-    let verdict = r.verdict;
-    if tmreader::is_clean(verdict) {
-        return fields::join_apid(stamp.pid as u16, counts::category(stamp.kind));
+    if r.verdict.is_err() {
+        return 0;
     }
-    0
+    fields::join_apid(u16::from(r.stamp.pid), counts::category(r.stamp.kind))
 }
 
 // Adds APID, count, time, type and subtype.
@@ -35,10 +29,9 @@ fn put_fields(r: Reading, text: &mut [u8], at: usize) -> usize
     ensures { SaysBy (fields_text r) at text result }
 {
     let stamp = r.stamp;
-    let time = stamp.time;
     let first = saying::number(text, at, apid_in(r));
     let second = saying::number(text, first, stamp.count);
-    let third = saying::group(text, second, &time);
+    let third = saying::group(text, second, &stamp.time);
     let fourth = saying::group(text, third, &[stamp.kind]);
     saying::group(text, fourth, &[stamp.subtype])
 }
@@ -48,10 +41,7 @@ pub fn put_read(frame: &[u8], text: &mut [u8], at: usize) -> usize
     ensures { SaysBy (read_text frame.now) at text result }
 {
     let reading = tmreader::read(frame);
-    let verdict = reading.verdict;
-    let code = code_of(verdict);
-    let first = saying::octets(text, at, &code);
+    let first = saying::octets(text, at, &code_of(reading.verdict));
     let second = put_fields(reading, text, first);
-    let source = reading.source;
-    saying::last(text, second, octets::copy::placed(frame, source))
+    saying::last(text, second, octets::copy::placed(frame, reading.source))
 }

@@ -1,5 +1,6 @@
 -- How long the line of a frame is at most.
 -- Assumes nothing.
+use Rattle.std.specs.Prelude.{Option, Some, None}
 use mathlib.Core.Path.{◌≡◌}
 use mathlib.Core.Bool.{true}
 use mathlib.Core.List.{List, [], ◌∷◌, ◌++◌}
@@ -18,13 +19,13 @@ use Rattle.numerals.specs.Numbers.{decimal_of}
 use Rattle.numerals.proofs.Decimals.{decimal_most}
 use Rattle.tm.specs.declared.Stamp.{Stamp}
 use Rattle.contents.specs.declared.Kind.{Kind}
-use Rattle.contents.specs.declared.Kind.TheVariants.{Acceptance, Failure, Completion, Dump, Check, Connection, Unknown}
+use Rattle.contents.specs.declared.Kind.TheVariants.{Acceptance, Failure, Completion, Dump, Check, Connection}
 use Rattle.contents.specs.declared.Entry.{Entry}
-use Rattle.contents.specs.Source.{entries_in, formed, part_behind, contents_in}
-use Rattle.contents.specs.Told.{told_by}
+use Rattle.contents.specs.Source.{entries_in, formed_if, part_behind, contents_if}
+use Rattle.contents.specs.Told.{told_if}
 use Rattle.contents.proofs.Numbers.{entries_length}
 use Rattle.contents.proofs.Sources.{check_facts}
-use Rattle.tmreader.specs.declared.Verdict.{Verdict}
+use Rattle.tmreader.specs.Reader.{Verdict}
 use Rattle.tmreader.specs.Reader.{is_clean, number_of, kind_in, source_in, judged, stamp_in, reading_of}
 use Rattle.tmreader.proofs.Judged.{clean_source}
 use Rattle.toldtext.specs.Told.{in_decimal, in_hex, echo_text, failure_text, block_text, entry_text, entries_text, told_text}
@@ -130,23 +131,23 @@ check_most memory es =
     )
 
 -- What source data that is right tells takes two characters for each of its octets, and at most 472 more.
-told_most : (k : Kind) (f s : List ℕ) → formed k s ≡ true → length (told_text (told_by f (contents_in k s))) ≤ 2 * length s + 472
-told_most Acceptance f s h = omega (arith, echo-length (word16 s 0) (word16 s 2))
-told_most Failure f s h = omega (arith, refusal_most (word16 s 0) (word16 s 2) (word16 s 4) (word16 s 6))
-told_most Completion f s h = omega (arith, echo-length (word16 s 0) (word16 s 2))
-told_most Dump f s h =
+told_most : (k : Option Kind) (f s : List ℕ) → formed_if k s ≡ true → length (told_text (told_if f (contents_if k s))) ≤ 2 * length s + 472
+told_most (Some Acceptance) f s h = omega (arith, echo-length (word16 s 0) (word16 s 2))
+told_most (Some Failure) f s h = omega (arith, refusal_most (word16 s 0) (word16 s 2) (word16 s 4) (word16 s 6))
+told_most (Some Completion) f s h = omega (arith, echo-length (word16 s 0) (word16 s 2))
+told_most (Some Dump) f s h =
     let words : List ℕ = placed (part_behind 8 s) f in
     omega (arith, dump_most_lem (octet s 0) (word32 s 2) (word16 s 6) words, between_most 24 (16 + length s) f)
-told_most Check f s h =
+told_most (Some Check) f s h =
     let es : List Entry = entries_in (octet s 1) (placed (part_behind 2 s) f) in
     omega (arith, check_most (octet s 0) es, entries_length (octet s 1) (placed (part_behind 2 s) f), (check_facts s h).most)
-told_most Connection f s h = omega arith
-told_most Unknown f s h = omega arith
+told_most (Some Connection) f s h = omega arith
+told_most None f s h = omega arith
 
-clean_most : (f : List ℕ) → is_clean (judged f) ≡ true → length (stamp_text (stamp_in f) ++ (told_text (told_by f (contents_in (kind_in f) (source_in f))) ++ newline ∷ [])) ≤ 2 * length f + 586
+clean_most : (f : List ℕ) → is_clean (judged f) ≡ true → length (stamp_text (stamp_in f) ++ (told_text (told_if f (contents_if (kind_in f) (source_in f))) ++ newline ∷ [])) ≤ 2 * length f + 586
 unfolding stamp_in
 clean_most f h =
-    let told : List ℕ = told_text (told_by f (contents_in (kind_in f) (source_in f))) in
+    let told : List ℕ = told_text (told_if f (contents_if (kind_in f) (source_in f))) in
     omega (
       arith,
       length-append (stamp_text (stamp_in f)) (told ++ newline ∷ []),

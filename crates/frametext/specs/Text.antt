@@ -3,7 +3,7 @@ use Rattle.std.specs.Prelude.{cond, List, [], ◌∷◌, ◌++◌, ℕ}
 use Rattle.lines.specs.Lines.{newline}
 use Rattle.words.specs.Ascii.{ascii}
 use Rattle.tm.specs.declared.Stamp.{Stamp}
-use Rattle.tmreader.specs.declared.Verdict.{Verdict}
+use Rattle.tmreader.specs.Reader.{Verdict}
 use Rattle.tmreader.specs.Reader.{is_clean, number_of, reading_of, told_in}
 use Rattle.toldtext.specs.Told.{in_decimal, in_hex, told_text}
 

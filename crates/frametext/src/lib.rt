@@ -11,19 +11,18 @@ use tmreader::Verdict;
 fn put_stamp(s: Stamp, text: &mut [u8], at: usize) -> usize
     ensures { SaysBy (stamp_text s) at text result }
 {
-    let time = s.time;
-    let first = toldtext::put_decimal(b"(", s.kind as u64, text, at);
-    let second = toldtext::put_decimal(b",", s.subtype as u64, text, first);
-    let third = toldtext::put_decimal(b") pid ", s.pid as u64, text, second);
-    let fourth = toldtext::put_decimal(b" count ", s.count as u64, text, third);
-    toldtext::put_hex(b" time ", &time, text, fourth)
+    let first = toldtext::put_decimal(b"(", u64::from(s.kind), text, at);
+    let second = toldtext::put_decimal(b",", u64::from(s.subtype), text, first);
+    let third = toldtext::put_decimal(b") pid ", u64::from(s.pid), text, second);
+    let fourth = toldtext::put_decimal(b" count ", u64::from(s.count), text, third);
+    toldtext::put_hex(b" time ", &s.time, text, fourth)
 }
 
 // Adds a refusal by its number.
 fn put_refused(v: Verdict, text: &mut [u8], at: usize) -> usize
     ensures { SaysBy (refused_text v) at text result }
 {
-    let first = toldtext::put_decimal(b"refused ", tmreader::number(v) as u64, text, at);
+    let first = toldtext::put_decimal(b"refused ", u64::from(tmreader::number(v)), text, at);
     saying::end(text, first)
 }
 
@@ -32,11 +31,9 @@ pub fn put_frame(frame: &[u8], text: &mut [u8], at: usize) -> usize
     ensures { SaysBy (frame_text frame.now) at text result }
 {
     let reading = tmreader::read(frame);
-    let verdict = reading.verdict;
-    if !tmreader::is_clean(verdict) {
-        return put_refused(verdict, text, at);
-    }
-    let told = reading.contents;
+    let Some(told) = reading.contents else {
+        return put_refused(reading.verdict, text, at);
+    };
     let first = put_stamp(reading.stamp, text, at);
     let second = toldtext::put_told(frame, told, text, first);
     saying::end(text, second)

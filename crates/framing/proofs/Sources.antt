@@ -1,5 +1,6 @@
 -- The source data of every report due: octets, and no more than the longest frame has room for.
 -- Assumes nothing.
+use Rattle.std.specs.Prelude.{Ok, Err}
 use mathlib.Core.Path.{refl}
 use mathlib.Core.Bool.{true}
 use mathlib.Core.List.{List, [], ◌∷◌, ◌++◌}
@@ -11,8 +12,7 @@ use borrow.Author.Tests.{leb-true}
 use Rattle.laws.specs.Each.{Each, every}
 use Rattle.octets.specs.Numbers.{Octets, octets16, octets32}
 use Rattle.octets.proofs.Octets.{octets_of, append_octets, take_octets, octets16_octets}
-use Rattle.checks.specs.declared.Verdict.{Verdict}
-use Rattle.checks.specs.declared.Verdict.TheVariants.{Accepted, Refused}
+use Rattle.checks.specs.Verdict.{Verdict}
 use Rattle.checks.specs.Verdict.{check_number, number_of, detail_of}
 use Rattle.checks.proofs.Numbers.{every_number}
 use Rattle.tc.specs.Layout.{application_of}
@@ -40,8 +40,8 @@ use Rattle.framing.proofs.Reports.{OfService, due_each}
 -- The number of a verdict has 16 bits.
 pub number_small : (v : Verdict) → number_of v < 65536
 unfolding every
-number_small Accepted = omega arith
-number_small (Refused r) = omega (arith, leb-true (check_number r.check) 65535 (every_number (λ (n : ℕ). leb n 65535) refl r.check))
+number_small (Ok _) = omega arith
+number_small (Err r) = omega (arith, leb-true (check_number r.check) 65535 (every_number (λ (n : ℕ). leb n 65535) refl r.check))
 
 service_sendable : (d store : List ℕ) → Octets d → Octets store → OfService Sendable d store
 service_sendable d store h l = record {

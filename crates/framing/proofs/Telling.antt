@@ -1,5 +1,6 @@
 -- What is told is what the reports due are made of, and it has room in them.
 -- Assumes nothing.
+use Rattle.std.specs.Prelude.{Some, None, Ok, Err, Option}
 use mathlib.Core.Path.{◌≡◌, refl, sym, ap, ap₂, subst, ◌∙◌}
 use mathlib.Core.Bool.{Bool, true, false, false≢true}
 use mathlib.Core.List.{List, [], ◌∷◌, ◌++◌, map}
@@ -13,8 +14,7 @@ use Rattle.octets.specs.Numbers.{Octets, word16, octets16}
 use Rattle.octets.proofs.Octets.{word16_small}
 use Rattle.octets.proofs.Words.{run, run_take}
 use Rattle.checks.specs.Table.{AllHold}
-use Rattle.checks.specs.declared.Verdict.{Verdict}
-use Rattle.checks.specs.declared.Verdict.TheVariants.{Accepted, Refused}
+use Rattle.checks.specs.Verdict.{Verdict}
 use Rattle.checks.specs.Verdict.{is_accepted, silent, number_of, detail_of}
 use Rattle.checks.proofs.Numbers.{silent_refuses}
 use Rattle.crc.proofs.Laws.{crc_lt}
@@ -23,8 +23,6 @@ use Rattle.reader.proofs.Details.{application_octets}
 use Rattle.tm.specs.Frame.{Report}
 use Rattle.map.specs.declared.Area.{Area}
 use Rattle.map.specs.declared.Profile.{Profile}
-use Rattle.map.specs.declared.Found.{Found}
-use Rattle.map.specs.declared.Found.TheVariants.{At, Nothing}
 use Rattle.map.specs.Place.{dump_words, inside, octet_at, octets_of}
 use Rattle.map.specs.Sound.{sound}
 use Rattle.map.proofs.Finding.{found_sound}
@@ -38,8 +36,7 @@ use Rattle.reports.specs.Source.{echo_of, check_head}
 use Rattle.requests.specs.declared.Action.{Action}
 use Rattle.requests.specs.declared.Action.TheVariants.{Load, Dump, Check}
 use Rattle.requests.specs.declared.Request.TheVariants.{Memory as Asks, Connection as AsksConnection}
-use Rattle.requests.specs.declared.Asked.{Asked}
-use Rattle.requests.specs.declared.Asked.TheVariants.{Known, Unknown}
+use Rattle.requests.specs.declared.Request.{Request}
 use Rattle.requests.specs.Request.{carried_by, most_words, area_named}
 use Rattle.requests.proofs.Outside.{all-inside}
 use Rattle.contents.specs.declared.Entry.{Entry}
@@ -181,14 +178,14 @@ all_served a limit octets carried d [] room x y z = tt
 all_served a limit octets carried d (b ∷ bs) room x y z =
     (record { bounds = x.0; read = y.0; room = room b z.0 }, all_served a limit octets carried d bs room x.1 y.1 z.1)
 
-served_memory : (found : Found) (action : Action) (octets : ℕ) (d : List ℕ)
-    → ((a : Area) → found ≡ At a → Formed action d × Each (Served a (most_words action) octets (carried_by action) d) (blocks_of (carried_by action) d))
+served_memory : (found : Option Area) (action : Action) (octets : ℕ) (d : List ℕ)
+    → ((a : Area) → found ≡ Some a → Formed action d × Each (Served a (most_words action) octets (carried_by action) d) (blocks_of (carried_by action) d))
     → ServedFor (memory_task found action) octets d
-served_memory (At a) action octets d h = h a refl
-served_memory Nothing action octets d h = tt
+served_memory (Some a) action octets d h = h a refl
+served_memory None action octets d h = tt
 
-served_for : (p : Profile) (asked : Asked) (octets : ℕ) (d : List ℕ) → sound p octets ≡ true → AllHold (service_rows p asked d) → ServedFor (task_for p asked d) octets d
-served_for p (Known (Asks action)) octets d s all =
+served_for : (p : Profile) (asked : Option Request) (octets : ℕ) (d : List ℕ) → sound p octets ≡ true → AllHold (service_rows p asked d) → ServedFor (task_for p asked d) octets d
+served_for p (Some (Asks action)) octets d s all =
     let m = memory_facts p action d all in
     let bs : List Block = blocks_of (carried_by action) d in
     served_memory (area_named p d) action octets d
@@ -202,8 +199,8 @@ served_for p (Known (Asks action)) octets d s all =
           (blocks_read (carried_by action) d (block_count d) first_place)
           (all-inside a bs (rw (sym same) m.inside)),
     ))
-served_for p (Known AsksConnection) octets d s all = tt
-served_for p Unknown octets d s all = tt
+served_for p (Some AsksConnection) octets d s all = tt
+served_for p None octets d s all = tt
 
 tells_done : (t : Task) (d store : List ℕ) → Octets d → Octets store → ServedFor t (length store) d → Tells (done_told t d store) (done t d store).reports
 tells_done Idle d store o l s = tells_none
@@ -212,8 +209,8 @@ tells_done Connection d store o l s = record { reports = refl; fit = (tt, tt) }
 
 -- An accepted packet is answered.
 accepted_heard : (v : Verdict) → is_accepted v ≡ true → silent v ≡ false
-accepted_heard Accepted h = refl
-accepted_heard (Refused r) h = absurd (false≢true h)
+accepted_heard (Ok _) h = refl
+accepted_heard (Err r) h = absurd (false≢true h)
 
 module _ (i : Input) (h : InOctets i) where
   tells_accepted : is_accepted (verdict_on i) ≡ true → Tells (accepted_told i) (reports_on i)

@@ -1,7 +1,7 @@
 -- Document 02, wish 1: what each frame due tells, by the rules of document 01, and that it reads back as its own stamp and contents.
 use Rattle.std.specs.Prelude.{Bool, cond, List, [], ◌∷◌, ◌++◌, map, ℕ}
 use Rattle.octets.specs.Numbers.{word16}
-use Rattle.checks.specs.declared.Verdict.{Verdict}
+use Rattle.checks.specs.Verdict.{Verdict}
 use Rattle.checks.specs.Verdict.{is_accepted, number_of, detail_of, silent}
 use Rattle.crc.specs.Register.{crc_of}
 use Rattle.tc.specs.Layout.{fields_of, application_of}

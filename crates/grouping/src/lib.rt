@@ -54,7 +54,7 @@ pub fn open(g: Group, number: u64, octets: usize) -> Group
         from: 0,
         end: octets,
         packet: number,
-        packets: std::num::wrapping_add_u64(g.packets, 1),
+        packets: g.packets.wrapping_add(1),
         frames: g.frames,
     }
 }
@@ -64,18 +64,17 @@ pub fn compare(g: Group, out: &[u8]) -> Group
     ensures { result ≡ compared g out.now }
 {
     let end = tm::frame_end(lines::front(out, g.end), g.from);
-    let mut next = g;
-    next.open = true;
-    next.from = end;
-    next.frames = std::num::wrapping_add_u64(g.frames, 1);
-    next
+    Group {
+        open: true,
+        from: end,
+        frames: g.frames.wrapping_add(1),
+        ..g
+    }
 }
 
 // Behind the line that ends a group.
 pub fn close(g: Group) -> Group
     ensures { result ≡ closed g }
 {
-    let mut next = g;
-    next.open = false;
-    next
+    Group { open: false, ..g }
 }

@@ -1,56 +1,31 @@
--- Laws of the sums: how large they are, what a loop over octets keeps, what is sent of a sum, and that they are the sums of whole numbers, modulo 255.
+-- Laws of the sums: what they are after one more octet, what is sent of a sum, and that they are the sums of whole numbers, modulo 255.
 -- Assumes nothing.
 use mathlib.Core.Path.{◌≡◌, refl, sym, ap, ap₂, ◌∙◌}
 use mathlib.Core.List.{List, [], ◌∷◌, ◌++◌}
-use Prim.Native.Nat.{ℕ, suc, ◌+◌, ◌*◌, ◌%◌, ◌≤◌, ◌<◌}
+use Prim.Native.Nat.{ℕ, suc, ◌+◌, ◌*◌, ◌%◌, ◌<◌}
 use native.Mathlib.Nat.{mul-add, add-mul, suc-mul, mod-mod, add-mod}
 use native.Mathlib.Numerals.{add-one}
 use native.Mathlib.Omega.{arith}
 use lib.Dec.{eqb}
-use lib.ListN.{length, length-append, drop, get_or, drop_of_length-le}
-use lib.Seq.{drop-cons}
+use lib.ListN.{length, length-append, take, get_or}
+use lib.Seq.{take-suc}
 use borrow.Author.Tests.{eqb-true, eqb-false}
 use Rattle.laws.specs.Fold.{reached}
+use Rattle.laws.proofs.Fold.{reached-append}
 use Rattle.laws.proofs.Tests.{by-test}
 use Rattle.iso.specs.declared.Sums.{Sums}
 use Rattle.iso.specs.Checksum.{modulus, at_start, added, sums_of, minus, sent}
 use Rattle.iso.specs.Closing.{NoZero, total, weighted}
 
--- ---- how large
-
--- Neither sum is above 255.
-abbrev pub Small : Sums → Type 0
-Small s = (s.c0 ≤ 255) × (s.c1 ≤ 255)
-
-reached_small : (xs : List ℕ) (s : Sums) → Small s → Small (reached added s xs)
-unfolding reached added
-reached_small [] s h = h
-reached_small (x ∷ xs) s h = reached_small xs (added s x) (omega arith, omega arith)
-
-pub sums_small : (xs : List ℕ) → Small (sums_of xs)
-unfolding sums_of
-sums_small xs = reached_small xs at_start (omega arith, omega arith)
-
 -- ---- a loop over octets
 
--- What a loop keeps that has come to the place i with the sums s: from the start all octets give what from s those left give.
-abbrev pub Left : List ℕ → Sums → ℕ → Type 0
-Left xs s i = (i ≤ length xs) × Small s × (sums_of xs ≡ reached added s (drop i xs))
-
--- It has all octets left to take.
-pub left_all : (xs : List ℕ) → Left xs at_start 0
-unfolding sums_of
-left_all xs = (omega arith, (omega arith, omega arith), refl)
-
--- It takes one.
-pub left_octet : (xs : List ℕ) (s : Sums) (i : ℕ) → Left xs s i → i < length xs → Left xs (added s (get_or xs i 0)) (i + 1)
-unfolding reached added
-left_octet xs s i left h = (omega arith, (omega arith, omega arith), rw add-one (rw (drop-cons xs i 0 h) at left.2))
-
--- It has taken all.
-pub left_none : (xs : List ℕ) (s : Sums) (i : ℕ) → Left xs s i → length xs ≤ i → s ≡ sums_of xs
-unfolding reached
-left_none xs s i left h = sym (rw (drop_of_length-le xs {i = i} h) at left.2)
+-- The sums after the first octets of a list, and after one more.
+pub sums_more : (xs : List ℕ) (i : ℕ) → i < length xs → sums_of (take (i + 1) xs) ≡ added (sums_of (take i xs)) (get_or xs i 0)
+unfolding reached sums_of
+sums_more xs i h =
+    ap (λ (k : ℕ). sums_of (take k xs)) (add-one i)
+    ∙ ap sums_of (take-suc xs i 0 h)
+    ∙ reached-append added at_start (take i xs) (get_or xs i 0 ∷ [])
 
 -- ---- numbers modulo 255
 

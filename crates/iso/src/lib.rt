@@ -1,7 +1,7 @@
 // The ISO checksum of ECSS-E-70-41A's annex over any octets.
 #![tactic(auto)]
 
-ghost use Rattle.std.specs.Prelude.{◌≡◌};
+ghost use Rattle.std.specs.Prelude.{◌≡◌, ◌≤◌};
 ghost use Rattle.iso.specs.Checksum.{sums_of, minus, sent, iso_of};
 
 use octets::numbers::VALUES;
@@ -20,6 +20,7 @@ struct Sums {
 }
 
 // The checksum: CK1, and behind it CK2.
+#[tactic(auto, unfolding(crate::specs::Checksum::iso_of))]
 pub fn checksum(octets: &[u8]) -> u16
     ensures { result ≡ iso_of octets.now }
 {
@@ -30,16 +31,15 @@ pub fn checksum(octets: &[u8]) -> u16
 }
 
 // The sums over some octets.
+#[tactic(auto, using(crate::proofs::Laws::sums_more), unfolding(laws::specs::Fold::reached, crate::specs::Checksum::added, crate::specs::Checksum::sums_of))]
 fn sums_of(octets: &[u8]) -> Sums
-    ensures { result ≡ sums_of octets.now }
+    ensures { (result ≡ sums_of octets.now) × (result.c0 ≤ 255) × (result.c1 ≤ 255) }
 {
     let mut c0 = ALL_ONES;
     let mut c1 = ALL_ONES;
-    let mut i = 0;
-    while i < octets.len() {
-        c0 = (c0 + octets::numbers::wide(octets[i])) % MODULUS;
+    for octet in octets {
+        c0 = (c0 + u16::from(*octet)) % MODULUS;
         c1 = (c1 + c0) % MODULUS;
-        i += 1;
     }
     Sums { c0, c1 }
 }

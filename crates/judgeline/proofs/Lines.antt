@@ -3,7 +3,7 @@
 use mathlib.Core.Path.{◌≡◌, refl, sym, ap, ap₂, ◌∙◌}
 use mathlib.Core.Bool.{Bool, true, false, cond}
 use mathlib.Core.List.{List, [], ◌∷◌}
-use Prim.Native.Nat.{ℕ, ◌+◌, min}
+use Prim.Native.Nat.{ℕ}
 use native.Mathlib.Omega.{arith}
 use lib.ListN.{length}
 use Rattle.laws.proofs.Tests.{by-test}
@@ -16,20 +16,16 @@ use Rattle.terminal.proofs.Due.{written_due}
 use Rattle.hexline.specs.Line.{packet_input, packet_in}
 use Rattle.hexline.proofs.Serving.{served_said}
 use Rattle.packline.specs.Record.{halt_of}
+use Rattle.packline.specs.declared.Halt.TheVariants.{Differs as halt_differs}
 use Rattle.beside.specs.Beside.{agrees}
-use Rattle.spelling.specs.Spelling.{spells_frame}
-use Rattle.spelling.proofs.Spelled.{spells_packet, spells_agrees}
 use Rattle.differing.specs.Differing.{differs_text}
 use Rattle.grouping.specs.declared.Group.{Group}
-use Rattle.grouping.specs.Group.{due_at, opened, compared, closed}
+use Rattle.grouping.specs.Group.{due_at, opened}
 use Rattle.desk.specs.declared.Desk.{Desk}
-use Rattle.desk.specs.declared.Done.{Done}
 use Rattle.desk.specs.Place.{Place, profile_at, station_at, with_state, with_group, halting, at_desk}
-use Rattle.desk.specs.Did.{Did}
-use Rattle.desk.proofs.Doing.{did_as}
 use Rattle.judgeline.specs.declared.Found.{Found}
 use Rattle.judgeline.specs.declared.Found.TheVariants.{Agrees, Differs, Bad}
-use Rattle.judgeline.specs.Step.{halt_differs, bad_says, served_at, outside_says, outside_becomes, found_by, behind_line, found_says, agreed_desk, found_desk, inside_says, inside_desk}
+use Rattle.judgeline.specs.Step.{bad_says, served_at, outside_says, outside_becomes, found_by, found_says, agreed_desk, found_desk, inside_says, inside_desk}
 
 -- ---- outside of a group
 
@@ -72,25 +68,10 @@ module _ (m : Place) (line : List ℕ) where
       f ∙ ap (λ (g : Group). with_group m.desk g) (e ∙ ap (λ (n : ℕ). opened m.desk.group m.desk.number n) written) in
       λ i. record { desk = (h ∙ ap₂ with_state grouped said.state_is) i; store = said.store_is i; out = said.out_is i }
 
-  -- What stands behind it.
-  pub did_served : (served : Desk) {at : ℕ} {text store out : List ℕ} (r : Done) → (length line ≡ 0 → ⊥) → is_packet line ≡ true
-      → ◌≡◌ {A = Place} (record { desk = served; store = store; out = out }) (served_at m line) → r.at ≡ min at (length text + 1) → r.desk ≡ served
-      → Did (outside_says m line) (outside_becomes m line) at text r store out text
-  did_served served r n t e a d =
-      did_as (outside_packet n t)
-      (record { says = says_none a; desk_is = d ∙ ap (λ (x : Place). x.desk) e; store_is = ap (λ (x : Place). x.store) e; out_is = ap (λ (x : Place). x.out) e })
-
 -- ---- inside of a group
 
 module _ (g : Group) (out line frame : List ℕ) (e : frame ≡ due_at g out) where
-  -- A line that spells the frame due agrees with it.
-  pub found_spelled : spells_frame frame line ≡ true → Agrees ≡ found_by g out line
-  unfolding found_by
-  found_spelled t =
-      let a : agrees (due_at g out) (octets_in line) ≡ true = ap (λ (f : List ℕ). agrees f (octets_in line)) (sym e) ∙ spells_agrees frame line t in
-      sym (rw (spells_packet frame line t, a) refl)
-
-  -- So does any packet line of which the octets do, and any other differs.
+  -- A packet line of which the octets agree with the frame due agrees, and any other differs.
   pub found_as : {r : Bool} (found : Found) → cond r Agrees Differs ≡ found → is_packet line ≡ true → agrees frame (octets_in line) ≡ r → found ≡ found_by g out line
   unfolding found_by
   found_as found f good t =
@@ -103,18 +84,7 @@ found_bad g out line t = sym (rw t refl)
 -- A line that differs is a packet line.
 pub differs_packet : (g : Group) (out line : List ℕ) → Differs ≡ found_by g out line → is_packet line ≡ true
 unfolding found_by
-differs_packet g out line e = by-test (is_packet line) (λ t. t) (λ w. let z : ◌≡◌ {A = Found} Differs Bad = rw w at e in absurd (apart z))
-  where
-    apart : ◌≡◌ {A = Found} Differs Bad → ⊥
-    apart z = let n : ◌≡◌ {A = ℕ} 0 1 = cc in omega arith
-
-pub behind_empty : (g : Group) (out line : List ℕ) → length line ≡ 0 → closed g ≡ behind_line g out line
-behind_empty g out [] e = refl
-behind_empty g out (c ∷ line) e = absurd (omega arith)
-
-pub behind_frame : (g : Group) (out line : List ℕ) → (length line ≡ 0 → ⊥) → compared g out ≡ behind_line g out line
-behind_frame g out [] n = absurd (n refl)
-behind_frame g out (c ∷ line) n = refl
+differs_packet g out line e = by-test (is_packet line) (λ t. t) (λ w. let z : ◌≡◌ {A = Found} Differs Bad = rw w at e in cc)
 
 module _ (d : Desk) (out line : List ℕ) where
   -- By what a line is found to be.

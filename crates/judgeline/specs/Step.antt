@@ -5,7 +5,8 @@ use Rattle.packetline.specs.Packet.{is_packet}
 use Rattle.terminal.specs.Outcome.{octets_due}
 use Rattle.hexline.specs.Line.{packet_input, packet_in, packet_after}
 use Rattle.packline.specs.declared.Halt.{Halt}
-use Rattle.packline.specs.Record.{halt_by, halt_of, refused_at}
+use Rattle.packline.specs.declared.Halt.TheVariants.{Differs as halt_differs}
+use Rattle.packline.specs.Record.{halt_of, refused_at}
 use Rattle.telling.specs.Telling.{halt_line}
 use Rattle.beside.specs.Beside.{agrees}
 use Rattle.differing.specs.Differing.{differs_text}
@@ -15,10 +16,6 @@ use Rattle.desk.specs.declared.Desk.{Desk}
 use Rattle.desk.specs.Place.{Place, profile_at, station_at, with_group, halting, at_desk, at_station}
 use Rattle.judgeline.specs.declared.Found.{Found}
 use Rattle.judgeline.specs.declared.Found.TheVariants.{Agrees, Differs, Bad}
-
--- Why the judge stops where a line differs.
-abbrev pub halt_differs : Halt
-halt_differs = halt_by 4
 
 -- `refused 70` with the number of the line, and why.
 abbrev pub bad_says : ℕ → Halt → List ℕ

@@ -6,14 +6,11 @@ ghost use Rattle.saying.specs.Text.{SaysBy};
 ghost use Rattle.differing.specs.Differing.{differs_text};
 ghost use Rattle.desk.specs.Place.{place_of, halting};
 ghost use Rattle.desk.specs.Did.{DidBy};
-ghost use Rattle.judgeline.specs.Step.{halt_differs, bad_says, served_at, outside_says, outside_becomes, found_by, behind_line, found_says, found_desk};
+ghost use Rattle.judgeline.specs.Step.{bad_says, served_at, outside_says, outside_becomes, found_by, behind_line, found_says, found_desk};
 
 use desk::{Desk, Done};
 use grouping::Group;
 use packline::Halt;
-
-// Why the judge stops where a line differs.
-pub const DIFFERS: u8 = 4;
 
 // What a line inside of a group is found to be, beside the frame due: it agrees, it differs, or it is no packet line.
 #[derive(Clone, Copy)]
@@ -40,13 +37,13 @@ pub fn refused(d: Desk, halt: Halt, text: &mut [u8], at: usize) -> Done
 fn serve(d: Desk, line: &[u8], store: &mut [u8], out: &mut [u8]) -> Desk
     ensures { record { desk = result; store = store.new; out = out.new } ≡ served_at (place_of d store.entry out.entry) line.now }
 {
-    let draft = d.draft;
-    let outcome = hexline::serve(draft.profile, d.state, line, store, out);
+    let outcome = hexline::serve(d.draft.profile, d.state, line, store, out);
     let group = grouping::open(d.group, d.number, outcome.written);
     desk::with_state(desk::with_group(d, group), outcome.state)
 }
 
 // A line outside of a group, which is counted already.
+#[tactic(auto, using(octets::proofs::Laid::laid_none), unfolding(crate::specs::Step::outside_says, crate::specs::Step::outside_becomes))]
 pub fn outside(
     d: Desk,
     line: &[u8],
@@ -57,7 +54,7 @@ pub fn outside(
 ) -> Done
     ensures { DidBy (λ m. outside_says m line.now) (λ m. outside_becomes m line.now) d at store out text result }
 {
-    if line.len() == 0 {
+    if line.is_empty() {
         return desk::nothing(d, text, at);
     }
     if packetline::is_packet(line) {
@@ -67,6 +64,7 @@ pub fn outside(
 }
 
 // A line inside of a group beside the frame due. Most lines spell it; of the others it is asked whether they are packet lines, and then octet by octet.
+#[tactic(auto, using(spelling::proofs::Spelled::spells_packet, spelling::proofs::Spelled::spells_agrees), unfolding(crate::specs::Step::found_by))]
 pub fn beside_due(g: Group, line: &[u8], out: &[u8]) -> Found
     ensures { result ≡ found_by g out.now line.now }
 {
@@ -87,7 +85,7 @@ pub fn beside_due(g: Group, line: &[u8], out: &[u8]) -> Found
 pub fn behind(g: Group, line: &[u8], out: &[u8]) -> Group
     ensures { result ≡ behind_line g out.now line.now }
 {
-    if line.len() == 0 {
+    if line.is_empty() {
         return grouping::close(g);
     }
     grouping::compare(g, out)
@@ -96,17 +94,17 @@ pub fn behind(g: Group, line: &[u8], out: &[u8]) -> Group
 // What is told of a line that differs, and the judge stops.
 fn differs(d: Desk, frame: &[u8], line: &[u8], text: &mut [u8], at: usize) -> Done
     ensures says_by { SaysBy (differs_text d.number d.group.packet frame.now line.now) at text result.at }
-    ensures desk_value { result.desk ≡ halting d halt_differs }
+    ensures desk_value { result.desk ≡ halting d Halt.Differs }
 {
-    let group = d.group;
-    let behind = differing::put_differs(d.number, group.packet, frame, line, text, at);
+    let behind = differing::put_differs(d.number, d.group.packet, frame, line, text, at);
     Done {
         at: behind,
-        desk: desk::halting(d, packline::stops(DIFFERS)),
+        desk: desk::halting(d, Halt::Differs),
     }
 }
 
 // A line inside of a group, which is counted already, by what it is found to be.
+#[tactic(auto, using(octets::proofs::Laid::laid_none))]
 pub fn inside(d: Desk, found: Found, line: &[u8], out: &[u8], text: &mut [u8], at: usize) -> Done
     ensures says_by { SaysBy (found_says found d out.now line.now) at text result.at }
     ensures desk_value { result.desk ≡ found_desk found d out.now line.now }

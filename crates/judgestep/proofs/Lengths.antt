@@ -10,7 +10,8 @@ use Rattle.packetline.specs.Packet.{is_packet}
 use Rattle.packetline.proofs.Packets.{packet_facts}
 use Rattle.hexline.specs.Whole.{answer_room}
 use Rattle.packline.specs.declared.Halt.{Halt}
-use Rattle.packline.specs.Record.{halt_of, halt_long, refused_at}
+use Rattle.packline.specs.declared.Halt.TheVariants.{Long}
+use Rattle.packline.specs.Record.{halt_of, refused_at}
 use Rattle.packline.proofs.Records.{refused_most}
 use Rattle.telling.specs.Telling.{halt_line}
 use Rattle.telling.proofs.Lengths.{halt_line_most}
@@ -57,4 +58,4 @@ judge_most m line =
 
 pub judge_long_most : (d : Desk) → length (judge_long_says d) ≤ answer_room
 unfolding judge_long_says
-judge_long_most d = by-test (is_halted d) (λ t. rw t (omega arith)) (λ h. rw h (bad_most (next_number d.number) halt_long))
+judge_long_most d = by-test (is_halted d) (λ t. rw t (omega arith)) (λ h. rw h (bad_most (next_number d.number) Long))

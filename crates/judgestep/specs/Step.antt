@@ -1,6 +1,6 @@
 -- docs/JUDGE.md: what the judge says to a line of a record, and what goes on from it.
 use Rattle.std.specs.Prelude.{cond, List, [], ◌++◌, ℕ}
-use Rattle.packline.specs.Record.{halt_long}
+use Rattle.packline.specs.declared.Halt.TheVariants.{Long}
 use Rattle.grouping.specs.Group.{next_number}
 use Rattle.desk.specs.declared.Desk.{Desk}
 use Rattle.desk.specs.Place.{Place, counted, halting, is_halted, at_desk, counting}
@@ -19,10 +19,10 @@ judge_becomes m line =
 
 -- A line that is too long.
 unfoldable pub judge_long_says : Desk → List ℕ
-judge_long_says d = cond (is_halted d) [] (bad_says (next_number d.number) halt_long)
+judge_long_says d = cond (is_halted d) [] (bad_says (next_number d.number) Long)
 
 unfoldable pub judge_long_desk : Desk → Desk
-judge_long_desk d = cond (is_halted d) d (halting (counted d) halt_long)
+judge_long_desk d = cond (is_halted d) d (halting (counted d) Long)
 
 -- ---- the end of the input, which serves as an empty line
 

@@ -8,10 +8,10 @@ ghost use Rattle.judgestep.specs.Step.{judge_says, judge_becomes, judge_long_say
 
 use desk::{Desk, Done};
 use judgeline::Found;
-use packline::LONG;
+use packline::Halt;
 
 // The judge's answer to a line.
-#[tactic(auto, using(crate::proofs::Judging::agrees_says, crate::proofs::Judging::agrees_becomes, crate::proofs::Judging::passes_says, crate::proofs::Judging::passes_becomes))]
+#[tactic(auto, using(octets::proofs::Laid::laid_none), unfolding(crate::specs::Step::judge_says, crate::specs::Step::judge_becomes, judgeline::specs::Step::inside_says, judgeline::specs::Step::inside_desk, judgeline::specs::Step::outside_says, judgeline::specs::Step::outside_becomes))]
 pub fn judge_answer(
     d: Desk,
     line: &[u8],
@@ -37,13 +37,14 @@ pub fn judge_answer(
         }
         return judgeline::inside(desk::counted(d), found, line, out, text, at);
     }
-    if line.len() == 0 {
+    if line.is_empty() {
         return desk::nothing(desk::counted(d), text, at);
     }
     judgeline::outside(desk::counted(d), line, store, out, text, at)
 }
 
 // The judge's answer to a line that is too long.
+#[tactic(auto, using(octets::proofs::Laid::laid_none), unfolding(crate::specs::Step::judge_long_says, crate::specs::Step::judge_long_desk))]
 pub fn judge_long(d: Desk, text: &mut [u8], at: usize) -> Done
     ensures says_by { SaysBy (judge_long_says d) at text result.at }
     ensures desk_value { result.desk ≡ judge_long_desk d }
@@ -51,10 +52,11 @@ pub fn judge_long(d: Desk, text: &mut [u8], at: usize) -> Done
     if desk::is_halted(d) {
         return desk::nothing(d, text, at);
     }
-    judgeline::refused(desk::counted(d), packline::stops(LONG), text, at)
+    judgeline::refused(desk::counted(d), Halt::Long, text, at)
 }
 
 // The empty line that the end of the input serves as. It is answered as any line is, but apart from them: a function that has one caller is laid into it, and so a line costs fewer copies of the desk.
+#[tactic(auto, using(octets::proofs::Laid::laid_none), unfolding(crate::specs::Step::judge_says, crate::specs::Step::judge_becomes, judgeline::specs::Step::inside_says, judgeline::specs::Step::inside_desk, judgeline::specs::Step::outside_says, judgeline::specs::Step::outside_becomes))]
 fn ended(d: Desk, store: &mut [u8], out: &mut [u8], text: &mut [u8], at: usize) -> Done
     ensures { DidBy (λ m. judge_says m []) (λ m. judge_becomes m []) d at store out text result }
 {

@@ -44,7 +44,7 @@ use Rattle.packstep.proofs.Packing.{pack_passes, pack_records}
 use Rattle.tasks.specs.declared.Task.TheVariants.{Pack}
 use Rattle.tasks.specs.Tasks.{task_program}
 use Rattle.feeding.specs.Output.{unit_of, unit_behind, pack_first, packed, pack_output}
-use Rattle.feeding.proofs.Streaming.{behind_octets}
+use Rattle.feeding.proofs.Units.{behind_octets}
 use Rattle.clauses.proofs.Soundness.{clause_tells}
 use Rattle.judging.specs.Output.{judge_output}
 use Rattle.judging.specs.Printed.{unit_profile, unit_station, is_fit, ConformsUnder, SaysConforming}

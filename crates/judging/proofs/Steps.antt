@@ -20,8 +20,8 @@ use Rattle.terminal.proofs.Due.{due_bounded, front_due, due-cut}
 use Rattle.hexline.specs.Line.{Station, packet_input, packet_in, packet_after}
 use Rattle.hexline.proofs.Serving.{packet_in_lem, after_out}
 use Rattle.packline.specs.declared.Halt.{Halt}
-use Rattle.packline.specs.Record.{halt_long, halt_of, refused_at}
-use Rattle.packline.proofs.Halts.{halts}
+use Rattle.packline.specs.declared.Halt.TheVariants.{Long}
+use Rattle.packline.specs.Record.{halt_of, refused_at}
 use Rattle.telling.specs.Telling.{halt_line}
 use Rattle.beside.specs.Beside.{agrees}
 use Rattle.differing.specs.Differing.{differs_text}
@@ -100,7 +100,7 @@ long_stops m k line going e h =
     let t = lt-leb (length line) line_most h in
     let l = long_going m.desk going in
     record {
-      said_is = rw t (l.0 ∙ ap (λ (n : ℕ). refused_at n ++ halt_line halt_long) (next m.desk.number k e));
+      said_is = rw t (l.0 ∙ ap (λ (n : ℕ). refused_at n ++ halt_line Long) (next m.desk.number k e));
       halted = rw t (ap is_halted l.1);
     }
 
@@ -150,7 +150,7 @@ module _ (p : Profile) (s : Station) (m : Place) (k packets frames : ℕ) (o : O
       (λ h.
       let d = cond_outside m l o.going o.shut in
       let e = outside_bad (counting m) l (λ z. omega arith) t in
-      bad_stops m k l o.number_is h (d.0 ∙ e.0) (ap (λ (x : Place). is_halted x.desk) (d.1 ∙ e.1) ∙ halts l))
+      bad_stops m k l o.number_is h (d.0 ∙ e.0) (ap (λ (x : Place). is_halted x.desk) (d.1 ∙ e.1)))
       (λ h. long_stops m k l o.going o.number_is h)
 
   -- A packet line opens a group: the frames due for it are due.
@@ -213,7 +213,7 @@ module _ (p : Profile) (s : Station) (m : Place) (k packets frames tc : ℕ) (du
       (λ h.
       let d = cond-inside m line o.going o.ajar in
       let e = inside_bad (counted m.desk) m.out line t in
-      bad_stops m k line o.number_is h (d.0 ∙ sym e.0) (ap (λ (x : Place). is_halted x.desk) d.1 ∙ ap is_halted (sym e.1) ∙ halts line))
+      bad_stops m k line o.number_is h (d.0 ∙ sym e.0) (ap (λ (x : Place). is_halted x.desk) d.1 ∙ ap is_halted (sym e.1)))
       (λ h. long_stops m k line o.going o.number_is h)
 
   module _ (line : List ℕ) (t : is_packet line ≡ true) where

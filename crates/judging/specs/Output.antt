@@ -1,13 +1,15 @@
 -- docs/JUDGE.md: the text of a verdict, and the whole output of `judge` over a unit file and a record.
-use Rattle.std.specs.Prelude.{cond, List, ◌++◌, ℕ, ◌%◌, ◌^◌, length, leb}
+use Rattle.std.specs.Prelude.{cond, List, ◌++◌, ℕ, ◌%◌, ◌^◌, length, leb, Result, Ok, Err}
 use Rattle.laws.specs.Fold.{reached}
 use Rattle.lines.specs.Lines.{lines_of}
 use Rattle.lines.specs.Feed.{line_becomes, output_of}
 use Rattle.packetline.specs.Packet.{line_most}
-use Rattle.clauses.specs.Clauses.{is_sound, clause_of}
+use Rattle.clauses.specs.declared.Clause.{Clause}
+use Rattle.clauses.specs.Clauses.{clause_of}
 use Rattle.packline.specs.declared.Halt.{Halt}
-use Rattle.packline.specs.Record.{halt_long, halt_of, refused_at}
-use Rattle.telling.specs.Telling.{unit_line, unsound_line, halt_line}
+use Rattle.packline.specs.declared.Halt.TheVariants.{Long}
+use Rattle.packline.specs.Record.{halt_of, refused_at}
+use Rattle.telling.specs.Telling.{unsound_line, halt_line}
 use Rattle.clausewords.specs.Clausewords.{clause_line}
 use Rattle.differing.specs.Differing.{differs_text}
 use Rattle.conforming.specs.Groups.{Line}
@@ -18,7 +20,7 @@ use Rattle.concluding.specs.Closing.{conforming_text, no_packet_text}
 use Rattle.judgestep.specs.Step.{end_says}
 use Rattle.tasks.specs.declared.Task.TheVariants.{Judge}
 use Rattle.tasks.specs.Tasks.{task_program}
-use Rattle.feeding.specs.Output.{unit_of, unit_behind, pack_first}
+use Rattle.feeding.specs.Output.{bad_unit, unit_of, unit_behind, pack_first}
 
 -- Numbers are told in 64 bits.
 abbrev pub told : ℕ → ℕ
@@ -26,7 +28,7 @@ told n = n % 2 ^ 64
 
 -- Why a line is no packet line.
 abbrev pub reason_of : Line → Halt
-reason_of line = cond (leb (length line) line_most) (halt_of line) halt_long
+reason_of line = cond (leb (length line) line_most) (halt_of line) Long
 
 -- The text of a verdict.
 unfoldable pub verdict_text : Verdict → List ℕ
@@ -39,12 +41,16 @@ verdict_text Refused71 = no_packet_text
 unfoldable pub judged_by : Place → List ℕ → List ℕ
 judged_by m text = output_of (task_program Judge) m text ++ end_says (reached (line_becomes (task_program Judge)) m (lines_of text))
 
+-- What is printed of a unit that is stated: what is said under it where it fails no clause, else `refused 41` and behind it the clause that fails.
+abbrev pub by_clause : List ℕ → Result Unit Clause → List ℕ
+by_clause said (Ok _) = said
+by_clause said (Err clause) = unsound_line ++ clause_line clause
+
 -- What `judge` prints for a unit and its store: the first bad line of its file; `refused 41` and the clause that fails, whatever the record; or what is said of the record.
 unfoldable pub judged_under : Desk → List ℕ → List ℕ → List ℕ
 judged_under unit store text =
-    cond (is_halted unit) (unit_line unit.number unit.halt.kind)
-    (cond (is_sound (clause_of unit.draft.profile unit.draft.stored)) (judged_by (pack_first unit store) text)
-    (unsound_line ++ clause_line (clause_of unit.draft.profile unit.draft.stored)))
+    cond (is_halted unit) (bad_unit unit.number unit.halt)
+    (by_clause (judged_by (pack_first unit store) text) (clause_of unit.draft.profile unit.draft.stored))
 
 -- What `judge` prints for a unit file and a record.
 abbrev pub judge_output : List ℕ → List ℕ → List ℕ

@@ -1,9 +1,12 @@
 -- docs/JUDGE.md: what `judge` may print for a unit file and a record, each answer by what it says of the two.
-use Rattle.std.specs.Prelude.{◌≡◌, Bool, true, false, ◌&&◌, List, [], ◌∷◌, ◌++◌, ℕ, ◌<◌, take}
+use Rattle.std.specs.Prelude.{◌≡◌, Some, Bool, true, false, ◌&&◌, List, [], ◌∷◌, ◌++◌, ℕ, ◌<◌, take, Err}
 use Rattle.lines.specs.Lines.{newline, lines_of}
 use Rattle.words.specs.Ascii.{ascii}
 use Rattle.map.specs.declared.Profile.{Profile}
+use Rattle.stating.specs.declared.fault.Fault.{Fault}
+use Rattle.packline.specs.declared.Halt.TheVariants.{Unit}
 use Rattle.map.specs.Sound.{store_allowed, sound}
+use Rattle.clauses.specs.declared.Clause.{Clause}
 use Rattle.clauses.specs.Clauses.{clause_of}
 use Rattle.hexline.specs.Line.{Station}
 use Rattle.telling.specs.Telling.{unit_line, unsound_line}
@@ -30,9 +33,9 @@ is_fit unit = store_allowed unit.draft.stored && sound unit.draft.profile unit.d
 
 -- What may be printed: the first bad line of the unit file; `refused 41` and a clause, whatever the record, just where the unit is not fit; and else a verdict that is permitted on the record's lines.
 pub data Printed (file text : List ℕ) : List ℕ → Type 0 where
-  bad_file : is_halted (unit_of file) ≡ true → Printed file text (unit_line (unit_of file).number (unit_of file).halt.kind)
-  refused_41 : is_halted (unit_of file) ≡ false → is_fit (unit_of file) ≡ false
-      → Printed file text (unsound_line ++ clause_line (clause_of (unit_of file).draft.profile (unit_of file).draft.stored))
+  bad_file : (fault : Fault) → (unit_of file).halt ≡ Some (Unit fault) → Printed file text (unit_line (unit_of file).number fault)
+  refused_41 : is_halted (unit_of file) ≡ false → is_fit (unit_of file) ≡ false → (clause : Clause) → clause_of (unit_of file).draft.profile (unit_of file).draft.stored ≡ Err clause
+      → Printed file text (unsound_line ++ clause_line clause)
   judged : is_halted (unit_of file) ≡ false → is_fit (unit_of file) ≡ true → (v : Verdict) → Permitted (unit_profile file) (unit_station file) (lines_of text) v
       → Printed file text (verdict_text v)
 

@@ -1,14 +1,17 @@
 -- Laws of `first_from`: no test fails exactly where each element passes; a test that more elements pass fails later.
 -- Assumes nothing.
-use mathlib.Core.Path.{◌≡◌, refl}
+use Rattle.std.specs.Prelude.{Some, None}
+use Rattle.std.proofs.lemmas.Option.{none-some}
+use mathlib.Core.Path.{◌≡◌, refl, sym}
 use mathlib.Core.Bool.{Bool, true, false}
 use mathlib.Core.Logic.{◌⊎◌, inl, inr, ⊎_elim}
 use mathlib.Core.List.{List, [], ◌∷◌, map}
 use Prim.Native.Nat.{ℕ, suc, ◌+◌, ◌≤◌}
 use native.Mathlib.Omega.{arith}
 use lib.ListN.{length}
+use lib.Dec.{eqb}
 use Rattle.laws.specs.Each.{Each}
-use Rattle.laws.specs.First.{first_from}
+use Rattle.laws.specs.First.{first_from, wrong_number}
 use Rattle.laws.proofs.Tests.{by-test}
 
 -- Where no test fails, each holds.
@@ -60,3 +63,11 @@ first_most k (test ∷ rest) =
     by-test test
     (λ t. rw t (omega (arith, first_most (suc k) rest)))
     (λ w. rw w (omega arith))
+
+-- What a number of the first that is wrong tells, and what none does.
+module _ (n : ℕ) where
+  pub wrong_is : {k : ℕ} → wrong_number n ≡ Some k → (n ≡ k) × (eqb n 0 ≡ false)
+  wrong_is {k = k} h = by-test (eqb n 0) (λ t. absurd (none-some _ (rw t at h))) (λ f. (let e : Some n ≡ Some k = rw f at h in cc, f))
+
+  pub wrong_none : wrong_number n ≡ None → eqb n 0 ≡ true
+  wrong_none h = by-test (eqb n 0) (λ t. t) (λ f. absurd (none-some _ (sym (rw f at h))))

@@ -1,7 +1,7 @@
 -- The reports that repeat a packet's first four octets, where it has them.
 -- Assumes nothing.
 use Rattle.std.proofs.Common.{◌≡◌, ℕ, ◌≤◌, List, ◌++◌, length}
-use Rattle.checks.specs.declared.Verdict.{Verdict}
+use Rattle.checks.specs.Verdict.{Verdict}
 use Rattle.checks.specs.Verdict.{number_of, detail_of}
 use Rattle.reports.specs.Source.{echoed, failure}
 use Rattle.reports.proofs.Echoes.{echoed-eq}

@@ -1,6 +1,6 @@
 -- Document 01, "Frames due": the reports that a packet is answered with.
 use Rattle.std.specs.Prelude.{ℕ, ◌/◌, ◌%◌, Bool, cond, List, [], ◌∷◌, ◌++◌, ◌==◌}
-use Rattle.checks.specs.declared.Verdict.{Verdict}
+use Rattle.checks.specs.Verdict.{Verdict}
 use Rattle.checks.specs.Verdict.{number_of, detail_of}
 use Rattle.map.specs.declared.Area.{Area}
 use Rattle.blocks.specs.declared.Block.{Block}

@@ -25,6 +25,7 @@ pub struct Sender {
 }
 
 // How far an answer has come: the place of the next report in the output buffer, and the counts.
+// It goes from report to report by value, apart from its sender and from the buffer that is lent: one value of the three would be taken apart at each call.
 #[derive(Clone, Copy)]
 pub struct Progress {
     pub at: u16,
@@ -77,8 +78,7 @@ pub fn report_connection(sender: Sender, p: Progress, out: &mut [u8]) -> Progres
     ensures { Lays sender p result out.old out.new (connected ∷ []) }
 {
     let s = stamp(sender, p.counts, 17, 2);
-    let none: [u8; 0] = [];
-    let octets = tm::put_frame(out, p.at, s, &none);
+    let octets = tm::put_frame(out, p.at, s, &[]);
     advance(p, octets, 17)
 }
 
@@ -124,10 +124,9 @@ fn lay_check_head(stamp: Stamp, memory: u8, count: u8, at: u16, out: &mut [u8])
     ensures { out.new ≡ laid out.old at (check_first stamp memory count) }
 {
     let head = tm::head(stamp, (count as usize) * 8 + 2);
-    let pair = [memory, count];
     let place = at as usize;
     octets::copy::put(out, place, &head);
-    octets::copy::put(out, place + 16, &pair);
+    octets::copy::put(out, place + 16, &[memory, count]);
 }
 
 // What the next report of a type and subtype is stamped with.
@@ -149,7 +148,7 @@ fn advance(p: Progress, octets: usize, kind: u8) -> Progress
     ensures { (result.at ≡ (p.at + octets) % 65536) × (result.counts ≡ counted p.counts kind) }
 {
     Progress {
-        at: std::num::wrapping_add_u16(p.at, (octets % PLACES) as u16),
+        at: p.at.wrapping_add((octets % PLACES) as u16),
         counts: counts::counted(p.counts, kind),
     }
 }

@@ -6,6 +6,7 @@ use mathlib.Core.List.{List, [], ◌∷◌, ◌++◌, append_assoc, append-nil}
 use Prim.Native.Nat.{ℕ, suc, ◌+◌, ◌-◌, ◌≤◌, ◌<◌}
 use native.Mathlib.Omega.{arith}
 use lib.ListN.{length, take, drop, length-append}
+use Rattle.std.specs.Prelude.{Option, None, Some}
 use lib.Seq.{take-append_seam, drop-append_seam, drop-append-add}
 use lib.Dec.{eqb}
 use borrow.Author.Tests.{lt-ltb, le-ltb, lt-leb, le-leb}
@@ -14,10 +15,9 @@ use Rattle.laws.proofs.Order.{by_order}
 use Rattle.lines.specs.declared.End.{End}
 use Rattle.lines.specs.declared.End.TheVariants.{On, Newline}
 use Rattle.lines.specs.declared.Cut.{Cut}
-use Rattle.lines.specs.declared.Cut.TheVariants.{Piece as Whole, More}
 use Rattle.lines.specs.Lines.{newline}
 use Rattle.lines.specs.Pieces.{Piece, piece, cut_from}
-use Rattle.lines.specs.Cuts.{next_from, next_of, taken_by, ends_line}
+use Rattle.lines.specs.Cuts.{cut, next_from, next_of, taken_by, ends_line}
 use Rattle.lines.specs.Turn.{Program, Turn, waits, saying, turn_from, turn_of}
 use Rattle.lines.proofs.Cuts.{next_newline, next_more, next_on, next_none}
 
@@ -136,9 +136,9 @@ module _ {M : Type 0} (p : Program M) (positive : 1 ≤ p.bound) (b : Bool) wher
       }
 
   -- What the front of an input is known to be.
-  abbrev Found : List ℕ → Cut → Type 0
-  Found s More = Open p b s
-  Found s (Whole n end) = Begins p b s n end
+  abbrev Found : List ℕ → Option Cut → Type 0
+  Found s None = Open p b s
+  Found s (Some r) = Begins p b s r.count r.end
 
   found_from : (u s : List ℕ) → Open p b u → Found (u ++ s) (next_from p.bound (length u) s)
   found_from u [] o = rw (next_none p.bound (length u), append-nil u) o
@@ -154,9 +154,9 @@ module _ {M : Type 0} (p : Program M) (positive : 1 ≤ p.bound) (b : Bool) wher
       (λ e h. rw (next_on p.bound (length u) c s e h) (begins_on u c s o e h))
 
   -- Where a whole piece is found.
-  pub found_whole : (s : List ℕ) (n : ℕ) (end : End) → next_of p.bound s ≡ Whole n end → Begins p b s n end
-  found_whole s n end e = subst (λ (r : Cut). Found s r) e (found_from [] s (open_none p b))
+  pub found_whole : (s : List ℕ) (n : ℕ) (end : End) → next_of p.bound s ≡ Some (cut n end) → Begins p b s n end
+  found_whole s n end e = subst (λ (r : Option Cut). Found s r) e (found_from [] s (open_none p b))
 
   -- Where none is.
-  pub found_none : (s : List ℕ) → next_of p.bound s ≡ More → Open p b s
-  found_none s e = subst (λ (r : Cut). Found s r) e (found_from [] s (open_none p b))
+  pub found_none : (s : List ℕ) → next_of p.bound s ≡ None → Open p b s
+  found_none s e = subst (λ (r : Option Cut). Found s r) e (found_from [] s (open_none p b))

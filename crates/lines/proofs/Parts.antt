@@ -1,15 +1,17 @@
 -- Laws of fronts and parts of a list, and of a part that is moved to the front of its own list.
 -- Assumes nothing.
-use mathlib.Core.Path.{◌≡◌, sym, ap, ap₂, ◌∙◌}
-use mathlib.Core.List.{List}
-use Prim.Native.Nat.{ℕ, ◌+◌, ◌-◌, ◌≤◌, ◌<◌, min}
+use mathlib.Core.Path.{◌≡◌, sym, ap, ◌∙◌}
+use mathlib.Core.List.{List, ◌++◌}
+use Prim.Native.Nat.{ℕ, ◌+◌, ◌-◌, ◌≤◌, min}
 use native.Mathlib.Nat.{min-eq_left}
 use native.Mathlib.Omega.{arith}
-use lib.ListN.{length, get_or, set, take, drop, length-take, length-drop, drop_of_length-le}
-use lib.Seq.{drop_at, take_all, take-add, length-take-le, get_or-append-add, get_or-drop}
+use lib.ListN.{length, take, drop, length-take, length-drop, drop_of_length-le}
+use lib.Seq.{drop_at, take_all, take-add, length-take-le}
+use Rattle.std.specs.List.{copy_within}
 use Rattle.octets.specs.Copy.{laid}
-use Rattle.octets.proofs.Laid.{laid-eq, laid_next}
+use Rattle.octets.proofs.Laid.{laid-eq}
 use Rattle.laws.proofs.Order.{by_order}
+use Rattle.lines.specs.Cuts.{left_of}
 
 -- No more than all of it.
 pub take_least : (n : ℕ) (s : List ℕ) → take (min n (length s)) s ≡ take n s
@@ -39,22 +41,20 @@ front_from from have count s e =
     ap (λ (n : ℕ). take n (drop from s)) none
     ∙ sym (drop_of_length-le (take have s) {i = from} (omega (arith, length-take have s))))
 
--- An octet behind those that were moved is still itself.
-unmoved : (d : List ℕ) (from i : ℕ) → from + i < length d → get_or (laid d 0 (take i (drop from d))) (from + i) 0 ≡ get_or (drop from d) i 0
-unmoved d from i h =
-    let u : List ℕ = take i (drop from d) in
-    let size : length u ≡ i = length-take-le i (drop from d) (omega (arith, length-drop from d)) in
-    let place : from + i ≡ length u + from = omega (arith, size) in
-    let back : 0 + length u + from ≡ from + i = omega (arith, size) in
-    ap₂ (λ (l : List ℕ) (n : ℕ). get_or l n 0) (laid-eq d 0 u (omega (arith, size))) place
-    ∙ get_or-append-add u (drop (0 + length u) d) from 0
-    ∙ get_or-drop (0 + length u) d from 0
-    ∙ ap (λ (n : ℕ). get_or d n 0) back
-    ∙ sym (get_or-drop from d i 0)
+-- What the copy within a buffer takes is what stands from the place on, and none where the place is past the input.
+module _ (d : List ℕ) (from have : ℕ) {end start : ℕ} (e : end ≡ min have (length d)) (f : start ≡ min from end) where
+  kept_part : take (end - start) (drop start d) ≡ left_of from have d
+  kept_part =
+      by_order from end
+      (λ h. let same : start ≡ from = omega arith in ap (λ (k : ℕ). take (end - start) (drop k d)) same ∙ front_from from have (end - start) d (omega arith))
+      (λ h. let none : end - start ≡ 0 = omega arith in ap (λ (n : ℕ). take n (drop start d)) none ∙ front_from from have 0 d (omega arith))
 
--- One octet more is moved.
-pub moved : (d s : List ℕ) (from i : ℕ) → from + i < length d → s ≡ laid d 0 (take i (drop from d)) → set s i (get_or s (from + i) 0) ≡ laid d 0 (take (i + 1) (drop from d))
-moved d s from i h e =
-    ap₂ (λ (l : List ℕ) (c : ℕ). set l i c) e (ap (λ (l : List ℕ). get_or l (from + i) 0) e ∙ unmoved d from i h)
-    ∙ ap (λ (n : ℕ). set (laid d 0 (take i (drop from d))) n (get_or (drop from d) i 0)) (omega arith)
-    ∙ laid_next d 0 (drop from d) i (omega (arith, length-drop from d))
+  pub kept_length : end - start ≡ length (left_of from have d)
+  kept_length = sym (length-take-le (end - start) (drop start d) (omega (arith, length-drop start d))) ∙ ap length kept_part
+
+  -- It is laid at the buffer's front.
+  pub kept : copy_within d start end 0 ≡ laid d 0 (left_of from have d)
+  kept =
+      let u : List ℕ = take (end - start) (drop start d) in
+      let size : length u ≡ end - start = length-take-le (end - start) (drop start d) (omega (arith, length-drop start d)) in
+      ap (λ (n : ℕ). take 0 d ++ u ++ drop (0 + n) d) (sym size) ∙ sym (laid-eq d 0 u (omega (arith, size))) ∙ ap (laid d 0) kept_part

@@ -8,15 +8,16 @@ use Prim.Native.Nat.{ℕ, ◌+◌, ◌-◌, min, ◌≤◌, ◌<◌}
 use native.Mathlib.Omega.{arith}
 use lib.ListN.{length, take, drop, length-append, length-take, length-drop}
 use lib.Seq.{drop-drop}
+use Rattle.std.specs.Prelude.{Option, None, Some}
 use Rattle.octets.specs.Copy.{laid}
 use Rattle.octets.proofs.Laid.{laid-length, laid-append, laid_none}
+use Rattle.lines.specs.declared.Cut.{Cut}
 use Rattle.lines.specs.declared.End.{End}
-use Rattle.lines.specs.declared.End.TheVariants.{Last}
-use Rattle.lines.specs.declared.Cut.TheVariants.{Piece as Whole, More}
+use Rattle.lines.specs.declared.End.TheVariants.{On, Last}
 use Rattle.lines.specs.declared.Walk.{Walk}
 use Rattle.lines.specs.declared.Progress.{Progress}
 use Rattle.lines.specs.Pieces.{Piece, piece}
-use Rattle.lines.specs.Cuts.{next_of, rest_of, left_of, taken_by, ends_line, passed_of, carried_of}
+use Rattle.lines.specs.Cuts.{cut, next_of, rest_of, left_of, taken_by, ends_line, passed_of, carried_of}
 use Rattle.lines.specs.Turn.{Program, Turn, waits, saying, turn_of}
 use Rattle.lines.specs.Feed.{Walked, Feeds, Finishes}
 use Rattle.lines.proofs.Opening.{Open, Begins, found_whole, found_none, turn_none}
@@ -96,7 +97,7 @@ module _ {M : Type 0} (p : Program M) where
 
   module _ (fits : Fits p) {whole : Turn M} {input text₀ : List ℕ} {w : Walk} {m : M} {text : List ℕ} (k : Walking p whole input text₀ w m text) where
     -- No whole piece is left.
-    pub walking_more : next_of p.bound (drop w.from input) ≡ More → Walked whole input text₀ (open_walk w) m text
+    pub walking_more : next_of p.bound (drop w.from input) ≡ None → Walked whole input text₀ (open_walk w) m text
     walking_more e =
         let o : Open p w.begins (drop w.from input) = found_none p fits.positive w.begins (drop w.from input) e in
         walked whole input text₀ w m text true k
@@ -104,7 +105,7 @@ module _ {M : Type 0} (p : Program M) where
         ∙ o.turns (length text₀ - w.at) m []
         ∙ turn_none p (length text₀ - w.at) m w.begins (drop w.from input))
 
-    module _ {n : ℕ} {end : End} (e : next_of p.bound (drop w.from input) ≡ Whole n end) where
+    module _ {n : ℕ} {end : End} (e : next_of p.bound (drop w.from input) ≡ Some (cut n end)) where
       begins : Begins p w.begins (drop w.from input) n end
       begins = found_whole p fits.positive w.begins (drop w.from input) n end e
 
@@ -181,20 +182,24 @@ module _ {M : Type 0} where
   -- ---- the end of the input
 
   module _ (p : Program M) (m : M) (begins : Bool) (text : List ℕ) where
-    nothing_left : (rest : List ℕ) → rest_of rest ≡ More → Finishes p m begins rest text 0 m text
+    nothing_left : (rest : List ℕ) → rest_of rest ≡ None → Finishes p m begins rest text 0 m text
     nothing_left [] e = record { at_is = omega arith; after_is = refl; text_is = sym (laid_none text 0) }
     nothing_left (c ∷ rest) e = let z : ◌≡◌ {A = ℕ} 0 1 = cc in absurd (omega arith)
 
     -- Nothing is left.
-    pub finishes_none : (front rest : List ℕ) → front ≡ rest → rest_of front ≡ More → Finishes p m begins rest text 0 m text
+    pub finishes_none : (front rest : List ℕ) → front ≡ rest → rest_of front ≡ None → Finishes p m begins rest text 0 m text
     finishes_none front rest d e = subst (λ (s : List ℕ). Finishes p m begins s text 0 m text) d (nothing_left front e)
 
-    piece_left : (rest : List ℕ) (n : ℕ) (end : End) (at : ℕ) (after : M) (text' : List ℕ) → rest_of rest ≡ Whole n end
+    abbrev end_in : Option Cut → End
+    end_in None = On
+    end_in (Some r) = r.end
+
+    piece_left : (rest : List ℕ) (n : ℕ) (end : End) (at : ℕ) (after : M) (text' : List ℕ) → rest_of rest ≡ Some (cut n end)
         → after ≡ p.becomes m (piece begins rest end) → at ≡ min (0 + length (p.says m (piece begins rest end))) (length text + 1) → text' ≡ laid text 0 (p.says m (piece begins rest end))
         → Finishes p m begins rest text at after text'
     piece_left [] n end at after text' e f g h = let z : ◌≡◌ {A = ℕ} 0 1 = cc in absurd (omega arith)
     piece_left (c ∷ rest) n end at after text' e f g h =
-        let last : end ≡ Last = cc in
+        let last : end ≡ Last = sym (ap end_in e) in
         record {
           at_is = omega (arith, g, ap (λ (x : End). length (p.says m (piece begins (c ∷ rest) x))) last);
           after_is = f ∙ ap (λ (x : End). p.becomes m (piece begins (c ∷ rest) x)) last;
@@ -202,7 +207,7 @@ module _ {M : Type 0} where
         }
 
     -- A last piece is.
-    pub finishes_last : (front rest : List ℕ) (n : ℕ) (end : End) (at : ℕ) (after : M) (text' : List ℕ) → front ≡ rest → rest_of front ≡ Whole n end
+    pub finishes_last : (front rest : List ℕ) (n : ℕ) (end : End) (at : ℕ) (after : M) (text' : List ℕ) → front ≡ rest → rest_of front ≡ Some (cut n end)
         → after ≡ p.becomes m (piece begins front end) → at ≡ min (0 + length (p.says m (piece begins front end))) (length text + 1) → text' ≡ laid text 0 (p.says m (piece begins front end))
         → Finishes p m begins rest text at after text'
     finishes_last front rest n end at after text' d e f g h = subst (λ (s : List ℕ). Finishes p m begins s text at after text') d (piece_left front n end at after text' e f g h)

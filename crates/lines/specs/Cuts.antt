@@ -1,9 +1,8 @@
 -- What stands at the front of an input, and what a walk over its pieces leaves.
-use Rattle.std.specs.Prelude.{Bool, true, false, cond, List, [], ◌∷◌, ℕ, suc, ◌+◌, min, length, take, drop, eqb, ltb}
+use Rattle.std.specs.Prelude.{Bool, true, false, cond, Option, None, Some, List, [], ◌∷◌, ℕ, suc, ◌+◌, min, length, take, drop, eqb, ltb}
 use Rattle.lines.specs.declared.End.{End}
 use Rattle.lines.specs.declared.End.TheVariants.{On, Newline, Last}
 use Rattle.lines.specs.declared.Cut.{Cut}
-use Rattle.lines.specs.declared.Cut.TheVariants.{Piece, More}
 use Rattle.lines.specs.declared.Walk.{Walk}
 use Rattle.lines.specs.declared.Progress.{Progress}
 use Rattle.lines.specs.Lines.{newline}
@@ -12,21 +11,25 @@ use Rattle.lines.specs.Lines.{newline}
 abbrev pub started : Progress
 started = record { have = 0; begins = true; «open» = true; at = 0 }
 
+-- A piece of so many characters that ends so.
+abbrev pub cut : ℕ → End → Cut
+cut count end = record { count = count; end = end }
+
 -- The first whole piece of an input that may go on, so many of its characters passed: its newline ends it, or the character that has no room in it.
-unfoldable pub next_from : ℕ → ℕ → List ℕ → Cut
-next_from bound passed [] = More
+unfoldable pub next_from : ℕ → ℕ → List ℕ → Option Cut
+next_from bound passed [] = None
 next_from bound passed (c ∷ rest) =
-    cond (eqb c newline) (Piece passed Newline)
-    (cond (ltb passed bound) (next_from bound (suc passed) rest) (Piece passed On))
+    cond (eqb c newline) (Some (cut passed Newline))
+    (cond (ltb passed bound) (next_from bound (suc passed) rest) (Some (cut passed On)))
 
 -- The first whole piece of an input that may go on.
-abbrev pub next_of : ℕ → List ℕ → Cut
+abbrev pub next_of : ℕ → List ℕ → Option Cut
 next_of bound input = next_from bound 0 input
 
 -- At the end of the input what is left is a last piece, if it is not empty.
-abbrev pub rest_of : List ℕ → Cut
-rest_of [] = More
-rest_of (c ∷ rest) = Piece (length (c ∷ rest)) Last
+abbrev pub rest_of : List ℕ → Option Cut
+rest_of [] = None
+rest_of (c ∷ rest) = Some (cut (length (c ∷ rest)) Last)
 
 -- Of the input at the front of a buffer, what stands from a place on.
 abbrev pub left_of : ℕ → ℕ → List ℕ → List ℕ

@@ -1,12 +1,13 @@
 // Lines of an input that comes in parts: the whole pieces at the front of what is not answered yet, and what is left moved to the front.
 #![tactic(auto)]
 
-ghost use Rattle.std.specs.Prelude.{◌≡◌, length, take, drop};
+ghost use Rattle.std.specs.Prelude.{◌≡◌, ◌-◌, ◌==◌, position, ◌^◌, min, length, take, drop};
 ghost use Rattle.octets.specs.Copy.{laid};
-ghost use Rattle.lines.specs.Cuts.{started, next_of, rest_of, ends_line, left_of, passed_of, carried_of};
+ghost use Rattle.lines.specs.Lines.{newline};
+ghost use Rattle.lines.specs.Cuts.{started, next_of, rest_of, taken_by, ends_line, left_of, passed_of, carried_of};
 
 // The character that ends a line.
-pub const NEWLINE: u8 = 10;
+pub const NEWLINE: u8 = b'\n';
 
 // How a piece of a line ends: the line goes on behind it, its newline ended it, or the input did.
 #[derive(Clone, Copy)]
@@ -16,11 +17,11 @@ pub enum End {
     Last,
 }
 
-// What stands at the front of some input: a piece of so many characters and how it ends, or no whole piece.
+// A piece at the front of some input: of how many characters it is, and how it ends.
 #[derive(Clone, Copy)]
-pub enum Cut {
-    Piece(usize, End),
-    More,
+pub struct Cut {
+    pub count: usize,
+    pub end: End,
 }
 
 // How far a walk over the pieces of an input has come: where the next one begins, whether it begins a line, whether no whole one is left, and how much text is said.
@@ -33,6 +34,7 @@ pub struct Walk {
 }
 
 // How far a program has come: how much input is not answered and stands at the front of its buffer, whether that begins a line, whether no whole piece is left in it, and how much text is said.
+// A struct beside `Walk`: one names a place in the input and the other how much of it there is, and contracts name either field.
 #[derive(Clone, Copy)]
 pub struct Progress {
     pub have: usize,
@@ -57,62 +59,69 @@ pub fn start() -> Progress
 pub fn front(input: &[u8], count: usize) -> &[u8]
     ensures { result.now ≡ take count input.now }
 {
-    if input.len() < count {
-        return input;
-    }
-    &input[..count]
+    input.get(..count).unwrap_or(input)
 }
 
 // So many characters of an input from a place on.
 pub fn piece(input: &[u8], from: usize, count: usize) -> &[u8]
     ensures { result.now ≡ take count (drop from input.now) }
 {
-    if input.len() < from {
-        return &input[..0];
-    }
-    front(&input[from..], count)
+    front(octets::copy::behind(input, from), count)
+}
+
+// The place of the first newline of some characters, from 0.
+fn newline_in(characters: &[u8]) -> Option<usize>
+    ensures { result ≡ position (λ c. c == newline) characters.now }
+{
+    characters.iter().position(|c| *c == NEWLINE)
 }
 
 // The first whole piece of the input from a place on, which may go on: of at most so many characters, up to a newline, or up to the character that has no room in it.
-#[tactic(auto, using(crate::proofs::Cuts::next_at_newline, crate::proofs::Cuts::next_at_on, crate::proofs::Cuts::next_at_more, crate::proofs::Cuts::next_past))]
-pub fn next(input: &[u8], from: usize, bound: usize) -> Cut
+pub fn next(input: &[u8], from: usize, bound: usize) -> Option<Cut>
     ensures { result ≡ next_of bound (drop from input.now) }
 {
-    let full = octets::numbers::least_sum(from, bound, input.len());
-    let mut at = from;
-    while at < full {
-        if input[at] == NEWLINE {
-            return Cut::Piece(at - from, End::Newline);
-        }
-        at += 1;
+    let rest = octets::copy::behind(input, from);
+    let window = front(rest, bound.saturating_add(1));
+    match newline_in(window) {
+        Some(count) => Some(Cut {
+            count,
+            end: End::Newline,
+        }),
+        None if bound < rest.len() => Some(Cut {
+            count: bound,
+            end: End::On,
+        }),
+        None => None,
     }
-    if input.len() <= at {
-        return Cut::More;
-    }
-    if input[at] == NEWLINE {
-        return Cut::Piece(at - from, End::Newline);
-    }
-    Cut::Piece(at - from, End::On)
 }
 
 // The last piece of an input, at its end: all that is left, and none where nothing is.
-pub fn last(input: &[u8]) -> Cut
+pub fn last(input: &[u8]) -> Option<Cut>
     ensures { result ≡ rest_of input.now }
 {
-    if input.len() == 0 {
-        return Cut::More;
+    if input.is_empty() {
+        return None;
     }
-    Cut::Piece(input.len(), End::Last)
+    Some(Cut {
+        count: input.len(),
+        end: End::Last,
+    })
 }
 
 // Whether a piece is the last of its line.
 pub fn ends(end: End) -> bool
     ensures { result ≡ ends_line end }
 {
+    matches!(end, End::Newline | End::Last)
+}
+
+// How many characters of the input a piece takes: its own, and its newline.
+fn taken(count: usize, end: End) -> usize
+    ensures { result ≡ min (taken_by count end) (2 ^ 64 - 1) }
+{
     match end {
-        End::On => false,
-        End::Newline => true,
-        End::Last => true,
+        End::Newline => count.saturating_add(1),
+        End::On | End::Last => count,
     }
 }
 
@@ -120,44 +129,24 @@ pub fn ends(end: End) -> bool
 pub fn passed(input: &[u8], w: Walk, count: usize, end: End, at: usize) -> Walk
     ensures { result ≡ passed_of input.now w count end at }
 {
-    let place = octets::numbers::least_sum(w.from, count, input.len());
-    match end {
-        End::On => Walk {
-            from: place,
-            begins: false,
-            open: false,
-            at,
-        },
-        End::Newline => Walk {
-            from: octets::numbers::least_sum(place, 1, input.len()),
-            begins: true,
-            open: false,
-            at,
-        },
-        End::Last => Walk {
-            from: place,
-            begins: true,
-            open: false,
-            at,
-        },
+    Walk {
+        from: w.from.saturating_add(taken(count, end)).min(input.len()),
+        begins: ends(end),
+        open: false,
+        at,
     }
 }
 
 // Moves what stands from a place on, of the input at the front of a buffer, to the buffer's front, and answers how much it is: none where the place is past that input.
-#[tactic(auto, using(octets::proofs::Laid::laid_none))]
+#[tactic(auto, using(crate::proofs::Parts::kept, crate::proofs::Parts::kept_length))]
 pub fn keep(buffer: &mut [u8], from: usize, have: usize) -> usize
     ensures value { result ≡ length (left_of from have buffer.old) }
     ensures buffer_after { buffer.new ≡ laid buffer.old 0 (left_of from have buffer.old) }
 {
-    let end = octets::numbers::least(have, buffer.len());
-    let mut i = 0;
-    let mut at = from;
-    while at < end {
-        buffer[i] = buffer[at];
-        i += 1;
-        at += 1;
-    }
-    i
+    let end = have.min(buffer.len());
+    let start = from.min(end);
+    buffer.copy_within(start..end, 0);
+    end - start
 }
 
 // What a walk over the input at the front of a buffer leaves, moved to the buffer's front, and how far the program has come.

@@ -4,7 +4,7 @@
 ghost use Rattle.std.specs.Prelude.{◌≡◌};
 ghost use Rattle.lineunit.specs.Unit.{line_profile};
 
-use map::{Area, Flags, Profile, Rights};
+use map::{AREAS, Area, Flags, Profile, Rights};
 
 // Where the area of the line program's profile starts.
 const AREA_START: u32 = 0x1000;
@@ -30,7 +30,8 @@ fn area(id: u8, start: u32, length: u32, all: bool) -> Area
 pub fn profile() -> Profile
     ensures { result ≡ line_profile }
 {
-    let none = area(0, 0, 0, false);
+    let mut areas = [area(0, 0, 0, false); AREAS];
+    areas[0] = area(1, AREA_START, 64, true);
     Profile {
         pid: 5,
         flags: Flags {
@@ -40,15 +41,6 @@ pub fn profile() -> Profile
             connection: true,
         },
         count: 1,
-        areas: [
-            area(1, AREA_START, 64, true),
-            none,
-            none,
-            none,
-            none,
-            none,
-            none,
-            none,
-        ],
+        areas,
     }
 }

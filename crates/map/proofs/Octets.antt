@@ -1,5 +1,6 @@
 -- Where the words of an area's blocks stand in the store, and how many octets they are. What a word's size is stays in this crate.
 -- Assumes nothing.
+use Rattle.std.specs.Prelude.{Some}
 use mathlib.Core.Bool.{Bool, true, false, false≢true, ◌||◌}
 use mathlib.Core.Logic.{◌⊎◌, inl, inr, ⊎_elim}
 use mathlib.Core.Path.{◌≡◌, refl, sym, ap, ◌∙◌}
@@ -14,7 +15,6 @@ use Rattle.octets.proofs.Between.{between-length, between_most}
 use Rattle.octets.proofs.Laid.{laid_read}
 use Rattle.octets.proofs.Octets.{between_octets}
 use Rattle.map.specs.declared.Area.{Area}
-use Rattle.map.specs.declared.Found.TheVariants.{At}
 use Rattle.map.specs.declared.Profile.{Profile}
 use Rattle.map.specs.Place.{word_octets, dump_words, dump_octets, used, find_in, inside, octet_at, octets_of, stored_at, Off}
 use Rattle.map.specs.Sound.{sound, area_sound, ahead, apart}
@@ -61,8 +61,8 @@ apart_octets a b s v t w p ha hb =
 pub found_octets_apart :
     (p : Profile) (octets i j : ℕ) (a b : Area) (s v t w : ℕ)
     → sound p octets ≡ true
-    → find_in i (used p) ≡ At a
-    → find_in j (used p) ≡ At b
+    → find_in i (used p) ≡ Some a
+    → find_in j (used p) ≡ Some b
     → (i ≡ j → ⊥)
     → inside a s v ≡ true
     → inside b t w ≡ true

@@ -1,10 +1,9 @@
 -- Document 01, "Profile and memory": which area has a memory ID, whether a block lies wholly inside an area, and where its words stand in the store.
-use Rattle.std.specs.Prelude.{Bool, cond, ◌&&◌, List, [], ◌∷◌, ◌⊎◌, ℕ, ◌+◌, ◌-◌, ◌*◌, ◌≤◌, ◌<◌, take, leb, eqb}
+use Rattle.std.specs.Prelude.{◌==◌, Bool, ◌&&◌, List, ◌⊎◌, ℕ, ◌+◌, ◌-◌, ◌*◌, ◌≤◌, ◌<◌, take, leb, Option}
+use Rattle.std.specs.List.{find}
 use Rattle.octets.specs.Copy.{between}
 use Rattle.map.specs.declared.Area.{Area}
 use Rattle.map.specs.declared.Profile.{Profile}
-use Rattle.map.specs.declared.Found.{Found}
-use Rattle.map.specs.declared.Found.TheVariants.{At, Nothing}
 
 -- The most areas that a profile has.
 abbrev pub areas_most : ℕ
@@ -26,9 +25,8 @@ abbrev pub used : Profile → List Area
 used p = take p.count p.areas
 
 -- The first of some areas that has a memory ID; in a sound profile it is the only one.
-unfoldable pub find_in : ℕ → List Area → Found
-find_in id [] = Nothing
-find_in id (a ∷ rest) = cond (eqb a.id id) (At a) (find_in id rest)
+unfoldable pub find_in : ℕ → List Area → Option Area
+find_in id areas = find (λ a. a.id == id) areas
 
 -- A block of words from an address on lies wholly inside an area.
 unfoldable pub inside : Area → ℕ → ℕ → Bool

@@ -46,13 +46,6 @@ pub struct Profile {
     pub areas: [Area; 8],
 }
 
-// The area that has a memory ID, if any has.
-#[derive(Clone, Copy)]
-pub enum Found {
-    At(Area),
-    Nothing,
-}
-
 // How many octets a word is.
 const WORD: u8 = 2;
 
@@ -74,7 +67,7 @@ pub fn set_area(areas: [Area; 8], at: usize, area: Area) -> [Area; 8]
 pub fn end_of(from: u32, words: u32) -> u64
     ensures { result ≡ from + words }
 {
-    (from as u64) + (words as u64)
+    u64::from(from) + u64::from(words)
 }
 
 // How many octets a number of an area's words is.

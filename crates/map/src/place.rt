@@ -2,14 +2,14 @@
 ghost use Rattle.std.specs.Prelude.{◌≡◌, ◌+◌, min};
 ghost use Rattle.map.specs.Place.{areas_most, word_octets, find_in, used, inside, octet_at, octets_of, stored_at};
 
-use super::{AREAS, Area, Found, Profile, WORD, end_of, octets_in};
+use super::{AREAS, Area, Profile, WORD, end_of, octets_in};
 
-// How many of the eight places a count uses.
-fn places_used(count: u8) -> usize
-    ensures { result ≡ min count areas_most }
+// The areas of a profile; unused places are ignored.
+pub fn used(profile: &Profile) -> &[Area]
+    ensures { result.now ≡ used profile.now }
 {
-    let used = count as usize;
-    if used < AREAS { used } else { AREAS }
+    let count = usize::from(profile.count).min(AREAS);
+    &profile.areas[..count]
 }
 
 // How many octets a word is.
@@ -20,30 +20,19 @@ pub fn word_octets() -> u8
 }
 
 // The first area of a profile that has a memory ID.
-pub fn find(profile: Profile, id: u8) -> Found
+#[tactic(auto, unfolding(crate::specs::Place::find_in))]
+pub fn find(profile: Profile, id: u8) -> Option<Area>
     ensures { result ≡ find_in id (used profile) }
 {
-    let areas = profile.areas;
-    let count = places_used(profile.count);
-    let mut i: usize = 0;
-    while i < count {
-        let area = areas[i];
-        if area.id == id {
-            return Found::At(area);
-        }
-        i += 1;
-    }
-    Found::Nothing
+    used(&profile).iter().copied().find(|area| area.id == id)
 }
 
 // Whether a block of words from an address on lies wholly inside an area.
+#[tactic(auto, unfolding(crate::specs::Place::inside))]
 pub fn lies_inside(area: Area, start: u32, words: u32) -> bool
     ensures { result ≡ inside area start words }
 {
-    if start < area.start {
-        return false;
-    }
-    end_of(start, words) <= end_of(area.start, area.length)
+    area.start <= start && end_of(start, words) <= end_of(area.start, area.length)
 }
 
 // How many octets a number of an area's words is.
@@ -54,13 +43,12 @@ pub fn octets_of(area: Area, words: u32) -> usize
 }
 
 // The octet of the store at which the word at an address of an area begins; below the area's start, that of its first word.
+#[tactic(auto, unfolding(crate::specs::Place::octet_at))]
 pub fn octet_at(area: Area, address: u32) -> usize
     ensures { result ≡ octet_at area address }
 {
-    if address < area.start {
-        return octets_in(area, area.first as u64) as usize;
-    }
-    octets_in(area, end_of(area.first, address - area.start)) as usize
+    let behind = address.saturating_sub(area.start);
+    octets_in(area, end_of(area.first, behind)) as usize
 }
 
 // The octet of the store at which an area's words begin.

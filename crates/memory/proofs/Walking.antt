@@ -1,8 +1,8 @@
 -- Walks over the blocks of a request, one block at a time: the words written, the entries laid.
 -- Assumes nothing.
-use mathlib.Core.Path.{◌≡◌, refl, sym, ap, ◌∙◌}
+use mathlib.Core.Path.{◌≡◌, refl, ◌∙◌}
 use mathlib.Core.List.{List, [], ◌∷◌}
-use Prim.Native.Nat.{ℕ, ◌+◌, ◌*◌, ◌≤◌, ◌<◌}
+use Prim.Native.Nat.{ℕ, ◌+◌, ◌*◌}
 use native.Mathlib.Omega.{arith}
 use lib.ListN.{length, length-append}
 use Rattle.octets.specs.Copy.{laid}
@@ -10,41 +10,30 @@ use Rattle.octets.proofs.Laid.{laid-append, laid_none}
 use Rattle.map.specs.declared.Area.{Area}
 use Rattle.map.specs.Place.{octet_at}
 use Rattle.blocks.specs.declared.Block.{Block}
-use Rattle.blocks.specs.Blocks.{block_at, words_of}
-use Rattle.blocks.proofs.Walk.{left, left_step, left_none}
+use Rattle.blocks.specs.Blocks.{words_of}
 use Rattle.memory.specs.Memory.{entry_of, entries_of, loaded}
 
-module _ (carried : ℕ) (d : List ℕ) (n : ℕ) where
-  abbrev here : ℕ → Block
-  here place = block_at carried d place
+-- Nothing is left to write, and a block is written before those that are left.
+pub loaded_none : (a : Area) (d : List ℕ) (blocks : List Block) (store : List ℕ) → blocks ≡ [] → loaded a d blocks store ≡ store
+unfolding loaded
+loaded_none a d blocks store e = rw e refl
 
-  -- A block written, and those that are left.
-  pub loaded_step : (a : Area) (i place : ℕ) (store : List ℕ) → i < n
-      → loaded a d (left carried d n i place) store
-      ≡ loaded a d (left carried d n (i + 1) (here place).next) (laid store (octet_at a (here place).start) (words_of d (here place)))
-  unfolding loaded
-  loaded_step a i place store h = ap (λ (bs : List Block). loaded a d bs store) (left_step carried d n i place h)
+pub loaded_next : (a : Area) (d : List ℕ) (store : List ℕ) (b : Block) (rest : List Block) (blocks : List Block) → blocks ≡ b ∷ rest
+    → loaded a d rest (laid store (octet_at a b.start) (words_of d b)) ≡ loaded a d blocks store
+unfolding loaded
+loaded_next a d store b rest blocks e = rw e refl
 
-  -- Nothing is left to write.
-  pub loaded-none : (a : Area) (i place : ℕ) (store : List ℕ) → n ≤ i → loaded a d (left carried d n i place) store ≡ store
-  unfolding loaded
-  loaded-none a i place store h = ap (λ (bs : List Block). loaded a d bs store) (left_none carried d n i place h)
+-- Nothing is left to lay, and an entry is laid before those that are left.
+pub entries_none : (a : Area) (store : List ℕ) (blocks : List Block) (out : List ℕ) (to : ℕ) → blocks ≡ []
+    → laid out to (entries_of a store blocks) ≡ out
+unfolding entries_of
+entries_none a store blocks out to e = rw e (laid_none out to)
 
-  -- An entry laid, and those that are left.
-  pub entries_step : (a : Area) (store : List ℕ) (i place : ℕ) (out : List ℕ) (to : ℕ) → i < n
-      → laid out to (entries_of a store (left carried d n i place))
-      ≡ laid (laid out to (entry_of a store (here place))) (to + 8) (entries_of a store (left carried d n (i + 1) (here place).next))
-  unfolding entries_of
-  entries_step a store i place out to h =
-      ap (λ (bs : List Block). laid out to (entries_of a store bs)) (left_step carried d n i place h)
-      ∙ sym (laid-append out to (entry_of a store (here place)) (entries_of a store (left carried d n (i + 1) (here place).next)))
-
-  -- Nothing is left to lay.
-  pub entries_none : (a : Area) (store : List ℕ) (i place : ℕ) (out : List ℕ) (to : ℕ) → n ≤ i
-      → laid out to (entries_of a store (left carried d n i place)) ≡ out
-  unfolding entries_of
-  entries_none a store i place out to h =
-      ap (λ (bs : List Block). laid out to (entries_of a store bs)) (left_none carried d n i place h) ∙ laid_none out to
+pub entries_next : (a : Area) (store out out' : List ℕ) (to to' : ℕ) (b : Block) (rest blocks : List Block) → blocks ≡ b ∷ rest
+    → out' ≡ laid out to (entry_of a store b) → to' ≡ to + 8
+    → laid out' to' (entries_of a store rest) ≡ laid out to (entries_of a store blocks)
+unfolding entries_of
+entries_next a store out out' to to' b rest blocks e f g = rw (e, f, g) (laid-append out to (entry_of a store b) (entries_of a store rest))
 
 -- Eight octets for each block.
 pub entries_length : (a : Area) (store : List ℕ) (blocks : List Block) → length (entries_of a store blocks) ≡ length blocks * 8

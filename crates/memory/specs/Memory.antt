@@ -6,8 +6,8 @@ use Rattle.reports.specs.Source.{check_entry}
 use Rattle.map.specs.declared.Area.{Area}
 use Rattle.map.specs.Place.{octet_at, stored_at}
 use Rattle.blocks.specs.declared.Block.{Block}
-use Rattle.blocks.specs.Blocks.{block_count, blocks_of, block_at, words_of}
-use Rattle.requests.specs.declared.Action.TheVariants.{Load, Check}
+use Rattle.blocks.specs.Blocks.{block_count, blocks_of, words_of}
+use Rattle.requests.specs.declared.Action.TheVariants.{Check}
 use Rattle.requests.specs.Request.{carried_by}
 
 -- The store with the blocks of a load written in order; where two overlap the later one stays.
@@ -27,17 +27,6 @@ entry_of a store b = check_entry b.start b.words (crc_of (stored_of a store b))
 unfoldable pub entries_of : Area → List ℕ → List Block → List ℕ
 entries_of a store [] = []
 entries_of a store (b ∷ rest) = entry_of a store b ++ entries_of a store rest
-
--- A block of a load is written, and the next one begins there.
-pub record LoadsBlock (a : Area) (d : List ℕ) (place : ℕ) (store : List ℕ) (next : ℕ) (store' : List ℕ) : Type 0 where
-  pub next_is : next ≡ (block_at (carried_by Load) d place).next
-  pub store_is : store'
-      ≡ laid store (octet_at a (block_at (carried_by Load) d place).start) (words_of d (block_at (carried_by Load) d place))
-
--- The entry of a block is laid, and the next one begins there.
-pub record LaysEntry (a : Area) (d : List ℕ) (place : ℕ) (store : List ℕ) (at : ℕ) (out : List ℕ) (next : ℕ) (out' : List ℕ) : Type 0 where
-  pub next_is : next ≡ (block_at (carried_by Check) d place).next
-  pub out_is : out' ≡ laid out at (entry_of a store (block_at (carried_by Check) d place))
 
 -- The entries of all blocks are laid, and so many octets they are.
 pub record LaysEntries (a : Area) (d store : List ℕ) (at : ℕ) (out : List ℕ) (r : ℕ) (out' : List ℕ) : Type 0 where

@@ -1,43 +1,49 @@
 -- Laws of the number that digits state, read one by one: a number above the largest may be taken for the one above it, and stays too large.
 -- Assumes nothing.
 use mathlib.Core.Path.{◌≡◌, refl, sym, ap, ◌∙◌}
-use mathlib.Core.Bool.{true, false, cond}
+use mathlib.Core.Bool.{false, cond}
 use mathlib.Core.List.{List, [], ◌∷◌}
-use Prim.Native.Nat.{ℕ, ◌+◌, ◌-◌, ◌*◌, ◌≤◌, ◌<◌, min}
+use Prim.Native.Nat.{ℕ, ◌+◌, ◌*◌, ◌≤◌, ◌<◌, min}
 use native.Mathlib.Nat.{le_trans, le-add_right, le-mul_of_pos_right}
 use native.Mathlib.Omega.{arith}
-use lib.ListN.{length, get_or, take, drop, length-drop, drop_of_length-le}
-use lib.Seq.{take_all}
-use lib.Dec.{eqb, leb}
-use borrow.Author.Tests.{lt-ltb, le-ltb, le-leb, lt-leb, leb-true}
+use lib.ListN.{length, get_or, drop, drop_of_length-le}
+use lib.Dec.{leb}
+use borrow.Author.Tests.{lt-ltb, le-ltb, le-leb, lt-leb}
 use Rattle.laws.proofs.Lists.{drop_next}
 use Rattle.laws.proofs.Order.{by_order}
-use Rattle.laws.proofs.Tests.{and_left}
-use Rattle.octets.specs.Numbers.{octet}
 use Rattle.characters.specs.Digits.{value_of}
-use Rattle.numerals.specs.declared.Numeral.{Numeral}
-use Rattle.numerals.specs.declared.Numeral.TheVariants.{Is, Large, Bad}
-use Rattle.numerals.specs.Numbers.{number_most, digits_of, said_from, stated_by, is_prefixed, has_leading_zero, numeral_of}
+use Rattle.std.specs.Prelude.{Result, Ok, Err}
+use Rattle.numerals.specs.declared.NumeralError.{NumeralError}
+use Rattle.numerals.specs.declared.NumeralError.TheVariants.{Large, Bad}
+use Rattle.numerals.specs.declared.Base.{Base}
+use Rattle.numerals.specs.declared.Base.TheVariants.{Ten, Sixteen}
+use Rattle.numerals.specs.Numbers.{number_most, radix_of, digits_of, said_from, stated_by, is_prefixed, has_leading_zero, numeral_of}
+
+-- A base has a digit.
+pub radix_some : (base : Base) → 1 ≤ radix_of base
+unfolding radix_of
+radix_some Ten = omega arith
+radix_some Sixteen = omega arith
 
 -- What tells a number.
-abbrev pub told_of : ℕ → Numeral
-told_of n = cond (leb n number_most) (Is n) Large
+abbrev pub told_of : ℕ → Result ℕ NumeralError
+told_of n = cond (leb n number_most) (Ok n) (Err Large)
 
 -- The number that digits of a base state behind those of another.
-unfoldable pub stated_from : ℕ → ℕ → List ℕ → Numeral
-stated_from base n digits = cond (digits_of base digits) (told_of (said_from base n digits)) Bad
+unfoldable pub stated_from : ℕ → ℕ → List ℕ → Result ℕ NumeralError
+stated_from base n digits = cond (digits_of base digits) (told_of (said_from base n digits)) (Err Bad)
 
 pub stated_some : (base : ℕ) (digits : List ℕ) → 1 ≤ length digits → stated_from base 0 digits ≡ stated_by base digits
 unfolding stated_from stated_by
 stated_some base digits h = rw (le-leb 1 (length digits) h) refl
 
-pub stated-none : (base : ℕ) (digits : List ℕ) → length digits ≤ 0 → Bad ≡ stated_by base digits
+pub stated_none : (base : ℕ) (digits : List ℕ) → length digits ≤ 0 → ◌≡◌ {A = Result ℕ NumeralError} (Err Bad) (stated_by base digits)
 unfolding stated_by
-stated-none base digits h = rw (lt-leb 1 (length digits) (omega arith)) refl
+stated_none base digits h = rw (lt-leb 1 (length digits) (omega arith)) refl
 
 -- ---- numbers above the largest
 
-told_large : (n : ℕ) → number_most < n → told_of n ≡ Large
+told_large : (n : ℕ) → number_most < n → told_of n ≡ Err Large
 told_large n h = rw (lt-leb n number_most h) refl
 
 module _ (base : ℕ) (some : 1 ≤ base) where
@@ -59,7 +65,7 @@ module _ (base : ℕ) (some : 1 ≤ base) where
 
   stated_capped : (n : ℕ) (digits : List ℕ) → stated_from base (min n (number_most + 1)) digits ≡ stated_from base n digits
   unfolding stated_from
-  stated_capped n digits = ap (λ (r : Numeral). cond (digits_of base digits) r Bad) (told_capped n digits)
+  stated_capped n digits = ap (λ (r : Result ℕ NumeralError). cond (digits_of base digits) r (Err Bad)) (told_capped n digits)
 
 -- ---- the walk over the digits, at a place
 
@@ -67,7 +73,7 @@ module _ (base n : ℕ) (s : List ℕ) (i : ℕ) (h : i < length s) where
   here : stated_from base n (drop i s) ≡ stated_from base n (get_or s i 0 ∷ drop (i + 1) s)
   here = ap (λ (r : List ℕ). stated_from base n r) (drop_next s i h)
 
-  pub stated_fail : base ≤ value_of (get_or s i 0) → Bad ≡ stated_from base n (drop i s)
+  pub stated_fail : base ≤ value_of (get_or s i 0) → ◌≡◌ {A = Result ℕ NumeralError} (Err Bad) (stated_from base n (drop i s))
   unfolding stated_from digits_of
   stated_fail large = sym (here ∙ rw (le-ltb (value_of (get_or s i 0)) base large) refl)
 
@@ -86,22 +92,6 @@ stated_end base n s i h = rw (drop_of_length-le s h) refl
 
 -- ---- the number that a word states
 
-module _ (word : List ℕ) where
-  pub prefixed_long : is_prefixed word ≡ true → 2 ≤ length word
-  prefixed_long t =
-      let zero : has_leading_zero word ≡ true = and_left (has_leading_zero word) (eqb (octet word 1) 0x78) t in
-      leb-true 2 (length word) (and_left (leb 2 (length word)) (eqb (octet word 0) 0x30) zero)
-
-  pub numeral_prefixed : is_prefixed word ≡ true → stated_by 16 (take (length word - 2) (drop 2 word)) ≡ numeral_of word
-  unfolding numeral_of
-  numeral_prefixed t =
-      let all : take (length word - 2) (drop 2 word) ≡ drop 2 word = take_all (length word - 2) (drop 2 word) (omega (arith, length-drop 2 word)) in
-      rw (t, all) refl
-
-  pub numeral_plain : is_prefixed word ≡ false → has_leading_zero word ≡ false → stated_by 10 word ≡ numeral_of word
-  unfolding numeral_of
-  numeral_plain p z = rw (p, z) refl
-
-  pub numeral_zero : is_prefixed word ≡ false → has_leading_zero word ≡ true → Bad ≡ numeral_of word
-  unfolding numeral_of
-  numeral_zero p z = rw (p, z) refl
+pub numeral_plain : (word : List ℕ) → is_prefixed word ≡ false → has_leading_zero word ≡ false → stated_by 10 word ≡ numeral_of word
+unfolding numeral_of
+numeral_plain word p z = rw (p, z) refl

@@ -15,7 +15,7 @@ use Rattle.octets.specs.Numbers.{octet}
 use Rattle.characters.specs.Digits.{value_of}
 use Rattle.characters.proofs.Back.{digit_value}
 use Rattle.characters.proofs.Capitals.{digit_number}
-use Rattle.numerals.specs.declared.Numeral.TheVariants.{Is}
+use Rattle.std.specs.Prelude.{Ok}
 use Rattle.numerals.specs.Numbers.{number_most, digits_of, said_from, stated_by, has_leading_zero, numeral_of, decimal_from, decimal_of}
 use Rattle.numerals.proofs.Reading.{numeral_plain}
 use Rattle.numerals.proofs.Decimals.{some_from, decimal_some}
@@ -109,7 +109,7 @@ decimal_plain n h =
     (λ small. rw (lt-ltb n 10 small) refl)
 
 -- A number that is printed is read back.
-pub decimal_read : (n : ℕ) → n ≤ number_most → numeral_of (decimal_of n) ≡ Is n
+pub decimal_read : (n : ℕ) → n ≤ number_most → numeral_of (decimal_of n) ≡ Ok n
 unfolding stated_by decimal_of
 decimal_read n h =
     let plain : has_leading_zero (decimal_of n) ≡ false = decimal_plain n (omega arith) in

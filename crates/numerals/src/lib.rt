@@ -1,117 +1,94 @@
 // Numbers as words: the number that a word states, and the decimal digits of one.
 #![tactic(auto)]
 
-ghost use Rattle.std.specs.Prelude.{◌≡◌, cond, ◌+◌, ◌*◌, ◌%◌, ◌≤◌, min, length, leb};
+ghost use Rattle.std.specs.Prelude.{◌≡◌, cond, ◌+◌, ◌*◌, ◌%◌, ◌≤◌, ◌<◌, min, leb, ltb};
 ghost use Rattle.saying.specs.Text.{SaysBy};
-ghost use Rattle.numerals.specs.Numbers.{number_most, is_prefixed, has_leading_zero, stated_by, numeral_of, decimal_from, decimal_of};
+ghost use Rattle.numerals.specs.Numbers.{number_most, radix_of, stated_by, numeral_of, decimal_from, decimal_of};
+ghost use Rattle.characters.specs.Digits.{value_of};
 
-// The number that a word states; one that is too large; or no number.
-#[derive(Clone, Copy)]
-pub enum Numeral {
-    Is(u32),
+// Why a word states no number that has room: the number is too large, or the word states none.
+#[derive(Clone, Copy, Debug, PartialEq, Eq)]
+pub enum NumeralError {
     Large,
     Bad,
 }
 
-// The largest number.
-const MOST: u64 = 4294967295;
+// The base of a number's digits.
+#[derive(Clone, Copy)]
+enum Base {
+    Ten,
+    Sixteen,
+}
 
-// What stands for every larger one.
+// What stands for every number above the largest.
 const ABOVE: u64 = 4294967296;
-
-// The characters `0` and `x`.
-const ZERO: u8 = b'0';
-
-const X: u16 = 0x78;
 
 // The most digits of a number of 64 bits.
 const DIGITS: u8 = 20;
 
-// A number with one digit more behind its own; any above the largest is the one above it.
-fn more(n: u64, base: u8, v: u8) -> u64
-    requires { (n ≤ number_most + 1) × (base ≤ 16) }
-    ensures { result ≡ min (n * base + v) (number_most + 1) }
+// How many digits a base has.
+#[tactic(auto, unfolding(crate::specs::Numbers::radix_of))]
+fn radix(base: Base) -> u8
+    ensures { result ≡ radix_of base }
 {
-    let next = n * (base as u64) + (v as u64);
-    if MOST < next {
-        return ABOVE;
+    match base {
+        Base::Ten => 10,
+        Base::Sixteen => 16,
     }
-    next
+}
+
+// The value of a digit of a base.
+fn value(c: u8, base: Base) -> Result<u8, NumeralError>
+    ensures { result ≡ cond (ltb (value_of c) (radix_of base)) (Ok (value_of c)) (Err NumeralError.Bad) }
+{
+    let value = characters::value(c);
+    if value < radix(base) {
+        Ok(value)
+    } else {
+        Err(NumeralError::Bad)
+    }
+}
+
+// A number with one digit more behind its own; any above the largest is the one above it.
+fn more(n: u64, value: u8, base: Base) -> u64
+    requires { n ≤ number_most + 1 }
+    ensures { result ≡ min (n * radix_of base + value) (number_most + 1) }
+{
+    (n * u64::from(radix(base)) + u64::from(value)).min(ABOVE)
 }
 
 // The answer that tells a number, or that it is too large.
-fn told(n: u64) -> Numeral
-    ensures { result ≡ cond (leb n number_most) (Numeral.Is n) Numeral.Large }
+fn told(n: u64) -> Result<u32, NumeralError>
+    ensures { result ≡ cond (leb n number_most) (Ok n) (Err NumeralError.Large) }
 {
-    if MOST < n {
-        return Numeral::Large;
-    }
-    Numeral::Is(n as u32)
+    u32::try_from(n).map_err(|_| NumeralError::Large)
 }
 
-// The number that digits of a base state, of which there are some.
-#[tactic(auto, using(crate::proofs::Reading::stated_some, crate::proofs::Reading::stated_fail, crate::proofs::Reading::stated_pass, crate::proofs::Reading::stated_end))]
-fn walked(digits: &[u8], base: u8) -> Numeral
-    requires { (1 ≤ length digits.now) × (1 ≤ base) × (base ≤ 16) }
-    ensures { result ≡ stated_by base digits.now }
+// The number that one or more digits of a base state.
+#[tactic(auto, using(crate::proofs::Reading::stated_none, crate::proofs::Reading::stated_some, crate::proofs::Reading::radix_some, crate::proofs::Reading::stated_fail, crate::proofs::Reading::stated_pass, crate::proofs::Reading::stated_end))]
+fn stated(digits: &[u8], base: Base) -> Result<u32, NumeralError>
+    ensures { result ≡ stated_by (radix_of base) digits.now }
 {
-    let mut n: u64 = 0;
-    let mut i = 0;
-    while i < digits.len() {
-        let v = characters::value(digits[i]);
-        if base <= v {
-            return Numeral::Bad;
-        }
-        n = more(n, base, v);
-        i += 1;
+    if digits.is_empty() {
+        return Err(NumeralError::Bad);
+    }
+    let mut n = 0;
+    for c in digits {
+        n = more(n, value(*c, base)?, base);
     }
     told(n)
 }
 
-// The number that one or more digits of a base state.
-#[tactic(auto, unfolding(crate::specs::Numbers::stated_by))]
-fn stated(digits: &[u8], base: u8) -> Numeral
-    requires { (1 ≤ base) × (base ≤ 16) }
-    ensures { result ≡ stated_by base digits.now }
-{
-    if 0 < digits.len() {
-        return walked(digits, base);
-    }
-    Numeral::Bad
-}
-
-// Whether a word begins with a zero that is not all of it.
-fn has_leading_zero(word: &[u8]) -> bool
-    ensures { result ≡ has_leading_zero word.now }
-{
-    if word.len() < 2 {
-        return false;
-    }
-    word[0] == ZERO
-}
-
-// Whether a word begins with `0x`.
-fn is_prefixed(word: &[u8]) -> bool
-    ensures { result ≡ is_prefixed word.now }
-{
-    if !has_leading_zero(word) {
-        return false;
-    }
-    octets::numbers::octet_at(word, 1) == X
-}
-
 // The number that a word states.
-#[tactic(auto, using(crate::proofs::Reading::prefixed_long, crate::proofs::Reading::numeral_prefixed, crate::proofs::Reading::numeral_plain, crate::proofs::Reading::numeral_zero))]
-pub fn number(word: &[u8]) -> Numeral
+#[tactic(auto, unfolding(crate::specs::Numbers::numeral_of, crate::specs::Numbers::radix_of))]
+pub fn number(word: &[u8]) -> Result<u32, NumeralError>
     ensures { result ≡ numeral_of word.now }
 {
-    if is_prefixed(word) {
-        return stated(&word[2..], 16);
+    match word {
+        [b'0', b'x', digits @ ..] => stated(digits, Base::Sixteen),
+        [b'0', _, ..] => Err(NumeralError::Bad),
+        _ => stated(word, Base::Ten),
     }
-    if !has_leading_zero(word) {
-        return stated(word, 10);
-    }
-    Numeral::Bad
 }
 
 // The character of a number's last decimal digit.

@@ -1,6 +1,6 @@
 -- Laws of `laid`: the length is kept, octets past the end are dropped, two copies in a row are one copy of the concatenation, and what stands in the buffer afterwards.
 -- Assumes nothing.
-use mathlib.Core.Path.{◌≡◌, refl, sym, ap, ◌∙◌}
+use mathlib.Core.Path.{◌≡◌, refl, sym, ap, ap₂, ◌∙◌}
 use mathlib.Core.Logic.{◌⊎◌, inl, inr, ⊎_elim}
 use mathlib.Core.List.{List, [], ◌∷◌, ◌++◌, append_assoc}
 use Prim.Native.Nat.{ℕ, zero, suc, ◌+◌, ◌-◌, min, ◌≤◌, ◌<◌}
@@ -8,7 +8,7 @@ use native.Mathlib.Nat.{add-zero}
 use native.Mathlib.Numerals.{add-one}
 use native.Mathlib.Omega.{arith}
 use lib.ListN.{length, get_or, set, take, drop, take-append-drop, length-set}
-use lib.Seq.{sets, length-sets, sets-eq, set_out, get_or-set_same, get_or-set_other, take-suc, take_all, length-take-le, take-append_seam, drop-append_seam}
+use lib.Seq.{sets, length-sets, sets-eq, set_out, get_or-set_same, get_or-set_other, take-suc, take_all, length-take-le, take-append_seam, drop-append_seam, drop-drop}
 use Rattle.octets.specs.Copy.{laid, between}
 use Rattle.octets.proofs.Between.{between-eq}
 use Rattle.laws.proofs.Order.{by_order}
@@ -107,3 +107,14 @@ laid_read d at s h =
     ∙ ap (λ (n : ℕ). take (length s) (drop n (front ++ (s ++ rest)))) (sym size)
     ∙ ap (λ (r : List ℕ). take (length s) r) (drop-append_seam front (s ++ rest))
     ∙ take-append_seam s rest
+
+-- What is stored from a place on, as many octets as have room, and nothing where the buffer ends before it, is what `laid` stores.
+pub laid_stored : (d : List ℕ) (at : ℕ) (s : List ℕ) (place count : ℕ) → place ≡ min at (length d) → count ≡ min (length s) (length d - at)
+    → take place d ++ (take count s ++ drop count (drop place d)) ≡ laid d at s
+laid_stored d at s place count p n =
+    let size : length (take count s) ≡ count = length-take-le count s (omega arith) in
+    ap (λ (r : List ℕ). take place d ++ (take count s ++ r)) (drop-drop count place d ∙ ap (λ (k : ℕ). drop (place + k) d) (sym size))
+    ∙ sym (laid-eq d place (take count s) (omega arith) ∙ append_assoc (take place d) (take count s) (drop (place + length (take count s)) d))
+    ∙ by_order at (length d)
+    (λ h. ap₂ (λ (k m : ℕ). laid d k (take m s)) (omega arith) n ∙ laid_fitting d at s)
+    (λ h. let none : count ≡ 0 = omega arith in rw none (laid_none d place ∙ sym (laid_past d at s (omega arith))))

@@ -1,4 +1,4 @@
--- Laws of big-endian numbers: past the end they are 0, and what is laid out is read back.
+-- Laws of big-endian numbers: what is laid out is read back.
 -- Assumes nothing.
 use mathlib.Core.Path.{◌≡◌, refl, sym, ap, ap₂, ◌∙◌}
 use mathlib.Core.List.{List, [], ◌∷◌, ◌++◌}
@@ -6,18 +6,9 @@ use Prim.Native.Nat.{ℕ, zero, suc, ◌+◌, ◌-◌, ◌/◌, ◌%◌, ◌≤�
 use native.Mathlib.Nat.{add-zero}
 use native.Mathlib.Numerals.{add-one}
 use native.Mathlib.Omega.{arith}
-use lib.ListN.{length, take, drop, drop_of_length-le, get_or-eq_default}
+use lib.ListN.{length, take, drop, drop_of_length-le}
 use lib.Seq.{get_or-append_seam, get_or-append-add, drop-cons, take_at, take_all}
 use Rattle.octets.specs.Numbers.{Octets, octet, word16, word32, octets16, octets32}
-
-pub octet_past : (s : List ℕ) (at : ℕ) → length s ≤ at → octet s at ≡ 0
-octet_past s at h = get_or-eq_default s 0 h
-
-pub word16_past : (s : List ℕ) (at : ℕ) → length s ≤ at → word16 s at ≡ 0
-word16_past s at h = omega (arith, octet_past s at h, octet_past s (at + 1) (omega arith))
-
-pub word32_past : (s : List ℕ) (at : ℕ) → length s ≤ at → word32 s at ≡ 0
-word32_past s at h = omega (arith, word16_past s at h, word16_past s (at + 2) (omega arith))
 
 -- The octets of a number are the number again, behind other octets too.
 pub word16_behind : (s : List ℕ) (x : ℕ) (rest : List ℕ) → word16 (s ++ (octets16 x ++ rest)) (length s) ≡ x

@@ -10,15 +10,13 @@ pub struct Span {
 }
 
 // Lays octets over a buffer's own from a place on and answers how many they are; those that would stand past its end are dropped.
+#[tactic(auto, using(crate::proofs::Laid::laid_stored))]
 pub fn put(buffer: &mut [u8], at: usize, octets: &[u8]) -> usize
     ensures { (result ≡ length octets.now) × (buffer.new ≡ laid buffer.old at octets.now) }
 {
+    let place = at.min(buffer.len());
     let count = fitting(buffer.len(), at, octets.len());
-    let mut i = 0;
-    while i < count {
-        buffer[at + i] = octets[i];
-        i += 1;
-    }
+    buffer[place..place + count].copy_from_slice(&octets[..count]);
     octets.len()
 }
 
@@ -26,27 +24,15 @@ pub fn put(buffer: &mut [u8], at: usize, octets: &[u8]) -> usize
 pub fn fitting(length: usize, at: usize, wanted: usize) -> usize
     ensures { result ≡ min wanted (length - at) }
 {
-    if length <= at {
-        return 0;
-    }
-    if wanted < length - at {
-        wanted
-    } else {
-        length - at
-    }
+    wanted.min(length.saturating_sub(at))
 }
 
 // The octets of a slice from a place up to another, and none where the two do not lie in it in that order.
+#[tactic(auto, unfolding(crate::specs::Copy::between))]
 pub fn part(s: &[u8], start: usize, end: usize) -> &[u8]
     ensures { result.now ≡ between start end s.now }
 {
-    if end < start {
-        return &s[..0];
-    }
-    if s.len() < end {
-        return &s[..0];
-    }
-    &s[start..end]
+    s.get(start..end).unwrap_or(&[])
 }
 
 // The octets of a slice that a part names.
@@ -60,8 +46,5 @@ pub fn placed(s: &[u8], p: Span) -> &[u8]
 pub fn behind(s: &[u8], count: usize) -> &[u8]
     ensures { result.now ≡ drop count s.now }
 {
-    if s.len() < count {
-        return &s[..0];
-    }
-    &s[count..]
+    s.get(count..).unwrap_or(&[])
 }

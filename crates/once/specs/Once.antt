@@ -1,38 +1,42 @@
--- docs/UNITS.md, "Items": those that stand once, `pid`, `services` and `store`: what is wrong with each.
-use Rattle.std.specs.Prelude.{Bool, cond, List, ℕ, drop}
+-- docs/UNITS.md, "Items": those that stand once, `pid`, `services` and `store`: what each states, or what is wrong with it.
+use Rattle.std.specs.Prelude.{Bool, cond, Result, Ok, Err, List, ℕ, drop}
 use Rattle.map.specs.Sound.{store_most}
-use Rattle.stating.specs.declared.Named.{Named}
-use Rattle.stating.specs.Faults.{pid_twice, pid_form, pid_large, services_twice, services_form, service_twice, store_twice, store_form, store_large}
-use Rattle.stating.specs.Stating.{number_fault, number_value, no_flags, flags_from}
-use Rattle.arealine.specs.Area.{first_fault}
+use Rattle.map.specs.Made.{all_flags}
+use Rattle.stating.specs.declared.fault.Fault.{Fault}
+use Rattle.stating.specs.declared.fault.Fault.TheVariants.{PidTwice, PidForm, PidLarge, ServicesTwice, ServicesForm, ServiceTwice, StoreTwice, StoreForm, StoreLarge}
+use Rattle.stating.specs.Stating.{and_then, is_some, number_stated, no_flags, flags_from}
 use Rattle.unit.specs.declared.Draft.{Draft}
-use Rattle.once.specs.declared.Once.{Once}
-use Rattle.unit.specs.Unit.{missing, too_many}
+use Rattle.once.specs.declared.Rule.{Rule}
+use Rattle.unit.specs.Unit.{with_pid, with_services, with_store}
 
--- An item that stands once, with one number that is at most so large.
-unfoldable pub sole_fault : Bool → ℕ → ℕ → ℕ → ℕ → List (List ℕ) → ℕ
-sole_fault earlier twice most form large ws =
-    cond earlier twice (first_fault (number_fault most form large ws) (too_many form (drop 1 ws)))
-
-abbrev pub sole_at : Bool → ℕ → ℕ → ℕ → ℕ → List (List ℕ) → Once
-sole_at earlier twice most form large ws = record { value = number_value ws; fault = sole_fault earlier twice most form large ws }
+-- The number of an item that stands once: it is at most so large, and no word stands behind it.
+unfoldable pub sole_stated : Bool → Rule → List (List ℕ) → Result ℕ Fault
+sole_stated earlier rule ws =
+    cond earlier (Err rule.twice)
+    (and_then (number_stated rule.most rule.form rule.large ws) (λ n. cond (is_some (drop 1 ws)) (Err rule.form) (Ok n)))
 
 -- The largest PID that a file can state.
 abbrev pub pid_octet : ℕ
 pid_octet = 255
 
 -- `pid N`: once; at most 255.
-abbrev pub pid_fault : Draft → List (List ℕ) → ℕ
-pid_fault d ws = sole_fault d.pid pid_twice pid_octet pid_form pid_large ws
+abbrev pub pid_rule : Rule
+pid_rule = record { most = pid_octet; twice = PidTwice; form = PidForm; large = PidLarge }
 
--- The services that words name, each at most once, in any order.
-abbrev pub services_named : List (List ℕ) → Named
-services_named ws = flags_from 4 services_form service_twice no_flags ws
+abbrev pub pid_stated : Draft → List (List ℕ) → Result Draft Fault
+pid_stated d ws = and_then (sole_stated d.pid pid_rule ws) (λ n. Ok (with_pid d n))
 
--- `services WORD ..`: at most once; one or more.
-unfoldable pub services_fault : Draft → List (List ℕ) → ℕ
-services_fault d ws = cond d.services services_twice (first_fault (missing services_form ws) (services_named ws).fault)
+-- `services WORD ..`: at most once; one or more services, each at most once, in any order.
+abbrev pub services_stated : Draft → List (List ℕ) → Result Draft Fault
+services_stated d ws =
+    cond d.services (Err ServicesTwice)
+    (cond (is_some ws)
+    (and_then (flags_from all_flags ServicesForm ServiceTwice no_flags ws) (λ f. Ok (with_services d f)))
+    (Err ServicesForm))
 
 -- `store N`: once; at most 65,536.
-abbrev pub store_fault : Draft → List (List ℕ) → ℕ
-store_fault d ws = sole_fault d.store store_twice store_most store_form store_large ws
+abbrev pub store_rule : Rule
+store_rule = record { most = store_most; twice = StoreTwice; form = StoreForm; large = StoreLarge }
+
+abbrev pub store_stated : Draft → List (List ℕ) → Result Draft Fault
+store_stated d ws = and_then (sole_stated d.store store_rule ws) (λ n. Ok (with_store d n))

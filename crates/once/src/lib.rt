@@ -2,111 +2,90 @@
 #![tactic(auto)]
 
 ghost use Rattle.std.specs.Prelude.{◌≡◌};
-ghost use Rattle.stating.specs.Stating.{words_behind, number_value};
-ghost use Rattle.once.specs.Once.{sole_at, pid_fault, services_fault, services_named, store_fault};
-ghost use Rattle.unit.specs.Unit.{with_pid, with_services, with_store, stated};
+ghost use Rattle.stating.specs.Stating.{words_left};
+ghost use Rattle.once.specs.Once.{sole_stated, pid_stated, services_stated, store_stated};
 
-use stating::fault;
-use unit::{Draft, Stated};
+use map::Flags;
+use stating::Words;
+use stating::fault::Fault;
+use unit::Draft;
 
-// The largest PID that a file can state, and the most octets of a store.
-const PID_OCTET: u32 = 255;
-
-const STORE_MOST: u32 = 65536;
-
-// How many services there are.
-const SERVICES: u8 = 4;
-
-// The number of an item that stands once, and what is wrong with it.
+// The most that the number of an item that stands once may be, and what is wrong where the item stands twice, has another form, or is larger.
 #[derive(Clone, Copy)]
-struct Once {
-    value: u32,
-    fault: u8,
+struct Rule {
+    most: u32,
+    twice: Fault,
+    form: Fault,
+    large: Fault,
 }
 
-// An item that stands once, with one number that is at most so large.
-fn sole(earlier: bool, line: &[u8], at: usize, twice: u8, most: u32, form: u8, large: u8) -> Once
-    ensures { result ≡ sole_at earlier twice most form large (words_behind line.now at) }
+// A PID that a file states is at most 255.
+const PID: Rule = Rule {
+    most: 255,
+    twice: Fault::PidTwice,
+    form: Fault::PidForm,
+    large: Fault::PidLarge,
+};
+
+// A store has at most 65,536 octets.
+const STORE: Rule = Rule {
+    most: 65536,
+    twice: Fault::StoreTwice,
+    form: Fault::StoreForm,
+    large: Fault::StoreLarge,
+};
+
+// The flags that are services: all of them.
+const SERVICES: Flags = Flags {
+    load: true,
+    dump: true,
+    check: true,
+    connection: true,
+};
+
+// The number of an item that stands once: it is at most so large, and the last word.
+#[tactic(auto, unfolding(crate::specs::Once::sole_stated))]
+fn sole(earlier: bool, words: Words, rule: Rule) -> Result<u32, Fault>
+    ensures { result ≡ sole_stated earlier rule (words_left words.entry) }
 {
-    let n = stating::number(line, at, most, form, large);
-    let value = n.value;
     if earlier {
-        return Once {
-            value,
-            fault: twice,
-        };
+        return Err(rule.twice);
     }
-    if n.fault != fault::FINE {
-        return Once {
-            value,
-            fault: n.fault,
-        };
+    let mut left = words;
+    let value = left.number(rule.most, rule.form, rule.large)?;
+    if left.more() {
+        return Err(rule.form);
     }
-    let fault = if unit::more(line, n.behind) {
-        form
-    } else {
-        fault::FINE
-    };
-    Once { value, fault }
+    Ok(value)
 }
 
 // `pid N`.
-pub fn pid(d: Draft, line: &[u8], at: usize) -> Stated
-    ensures { result ≡ stated d (pid_fault d (words_behind line.now at)) (with_pid d (number_value (words_behind line.now at))) }
+#[tactic(auto, using(crate::proofs::Bound::sole_bound))]
+pub fn pid(d: Draft, words: Words) -> Result<Draft, Fault>
+    ensures { result ≡ pid_stated d (words_left words.entry) }
 {
-    let n = sole(
-        d.pid,
-        line,
-        at,
-        fault::PID_TWICE,
-        PID_OCTET,
-        fault::PID_FORM,
-        fault::PID_LARGE,
-    );
-    if n.fault != fault::FINE {
-        return unit::told(d, n.fault);
-    }
-    unit::told(unit::with_pid(d, n.value as u8), fault::FINE)
+    let pid = sole(d.pid, words, PID)?;
+    Ok(unit::with_pid(d, pid as u8))
 }
 
 // `services WORD ..`.
-pub fn services(d: Draft, line: &[u8], at: usize) -> Stated
-    ensures { result ≡ stated d (services_fault d (words_behind line.now at)) (with_services d (services_named (words_behind line.now at)).flags) }
+pub fn services(d: Draft, words: Words) -> Result<Draft, Fault>
+    ensures { result ≡ services_stated d (words_left words.entry) }
 {
     if d.services {
-        return unit::told(d, fault::SERVICES_TWICE);
+        return Err(Fault::ServicesTwice);
     }
-    if !unit::more(line, at) {
-        return unit::told(d, fault::SERVICES_FORM);
+    if !words.more() {
+        return Err(Fault::ServicesForm);
     }
-    let n = stating::flags(
-        line,
-        at,
-        SERVICES,
-        fault::SERVICES_FORM,
-        fault::SERVICE_TWICE,
-    );
-    if n.fault != fault::FINE {
-        return unit::told(d, n.fault);
-    }
-    unit::told(unit::with_services(d, n.flags), fault::FINE)
+    let flags = words.flags(SERVICES, Fault::ServicesForm, Fault::ServiceTwice)?;
+    Ok(unit::with_services(d, flags))
 }
 
 // `store N`.
-pub fn store(d: Draft, line: &[u8], at: usize) -> Stated
-    ensures { result ≡ stated d (store_fault d (words_behind line.now at)) (with_store d (number_value (words_behind line.now at))) }
+pub fn store(d: Draft, words: Words) -> Result<Draft, Fault>
+    ensures { result ≡ store_stated d (words_left words.entry) }
 {
-    let n = sole(
-        d.store,
-        line,
-        at,
-        fault::STORE_TWICE,
-        STORE_MOST,
-        fault::STORE_FORM,
-        fault::STORE_LARGE,
-    );
-    if n.fault != fault::FINE {
-        return unit::told(d, n.fault);
-    }
-    unit::told(unit::with_store(d, n.value as usize), fault::FINE)
+    let octets = sole(d.store, words, STORE)?;
+    Ok(unit::with_store(d, octets as usize))
 }

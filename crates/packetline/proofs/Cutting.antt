@@ -1,7 +1,8 @@
 -- Laws of frames written one a line, and of closing lines.
 -- Assumes nothing.
+use Rattle.std.specs.Prelude.{Ok, Err}
 use mathlib.Core.Path.{◌≡◌, refl, ap}
-use mathlib.Core.Bool.{Bool, true, cond}
+use mathlib.Core.Bool.{true}
 use mathlib.Core.List.{List, [], ◌∷◌, ◌++◌}
 use Prim.Native.Nat.{ℕ, zero, suc, ◌+◌, ◌*◌, ◌-◌, min, ◌≤◌, ◌<◌}
 use native.Mathlib.Omega.{arith}
@@ -10,16 +11,14 @@ use lib.Dec.{ltb}
 use borrow.Author.Tests.{ltb-true}
 use Rattle.laws.specs.Fold.{joined}
 use Rattle.laws.specs.Each.{every}
-use Rattle.checks.specs.declared.Verdict.{Verdict}
-use Rattle.checks.specs.declared.Verdict.TheVariants.{Accepted, Refused}
-use Rattle.checks.specs.Verdict.{is_accepted, number_of}
+use Rattle.checks.specs.Verdict.{Verdict, number_of}
 use Rattle.checks.proofs.Numbers.{numbers, every_number}
 use Rattle.tm.specs.Frame.{frame_size, cut_frames, cut}
 use Rattle.tm.proofs.Frames.{cut_next, cut_end}
 use Rattle.characters.specs.Digits.{text_of}
-use Rattle.saying.specs.Text.{line_of, Says}
+use Rattle.saying.specs.Text.{line_of}
 use Rattle.saying.proofs.Saying.{line_length}
-use Rattle.packetline.specs.Packet.{lines_of, closing, closing_of}
+use Rattle.packetline.specs.Packet.{lines_of, closing_of}
 
 -- ---- frames, one a line
 
@@ -53,17 +52,11 @@ lines_end s = ap lines_of (cut_end s)
 
 -- A number has room in an octet.
 pub number_small : (v : Verdict) → number_of v < 256
-number_small Accepted = omega arith
-number_small (Refused r) = ltb-true _ _ (every_number (λ (n : ℕ). ltb n 256) small r.check)
+number_small (Ok _) = omega arith
+number_small (Err r) = ltb-true _ _ (every_number (λ (n : ℕ). ltb n 256) small r.check)
   where
     small : every (λ (n : ℕ). ltb n 256) numbers ≡ true
     small = unfold every in refl
-
--- What is said by whether a verdict accepts is its closing line.
-pub says_closing : (v : Verdict) (accepted : Bool) (n : ℕ) {at r : ℕ} {d d' : List ℕ} → accepted ≡ is_accepted v → n ≡ number_of v
-    → Says (closing (cond accepted 0 1) n) at d r d' → Says (closing_of v) at d r d'
-unfolding closing_of
-says_closing v accepted n a e s = rw (← a, ← e) s
 
 -- A closing line has four digits and the newline.
 pub closing-length : (v : Verdict) → length (closing_of v) ≡ 5

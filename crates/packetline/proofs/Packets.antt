@@ -6,7 +6,7 @@ use mathlib.Core.List.{List}
 use Prim.Native.Nat.{ℕ, ◌%◌, ◌≤◌, ◌<◌}
 use lib.ListN.{length}
 use lib.Dec.{leb, eqb}
-use borrow.Author.Tests.{leb-true, eqb-true, lt-leb, le-leb, ne_eqb, eq-eqb}
+use borrow.Author.Tests.{leb-true, eqb-true, lt-leb, le-leb, eq-eqb}
 use Rattle.laws.proofs.Tests.{both}
 use Rattle.characters.specs.Digits.{all_digits_of}
 use Rattle.packetline.specs.Packet.{line_most, is_packet}
@@ -22,10 +22,6 @@ and_true false = refl
 pub packet_long : (s : List ℕ) → line_most < length s → false ≡ is_packet s
 unfolding is_packet
 packet_long s h = sym (ap (λ (b : Bool). all_digits_of s && eqb (length s % 2) 0 && b) (lt-leb (length s) line_most h) ∙ and_false (all_digits_of s && eqb (length s % 2) 0))
-
-pub packet_odd : (s : List ℕ) → length s ≤ line_most → (length s % 2 ≡ 0 → ⊥) → false ≡ is_packet s
-unfolding is_packet
-packet_odd s h odd = sym (rw (ne_eqb (length s % 2) 0 odd, le-leb (length s) line_most h) (and_true (all_digits_of s && false) ∙ and_false (all_digits_of s)))
 
 pub packet_even : (s : List ℕ) → length s ≤ line_most → length s % 2 ≡ 0 → all_digits_of s ≡ is_packet s
 unfolding is_packet

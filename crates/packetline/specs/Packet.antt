@@ -1,7 +1,7 @@
 -- Document 01, "The line program": which lines are packet lines, frames one a line, and closing lines.
 use Rattle.std.specs.Prelude.{Bool, cond, ◌&&◌, List, [], ◌∷◌, map, ℕ, ◌%◌, length, leb, eqb}
 use Rattle.laws.specs.Fold.{joined}
-use Rattle.checks.specs.declared.Verdict.{Verdict}
+use Rattle.checks.specs.Verdict.{Verdict}
 use Rattle.checks.specs.Verdict.{is_accepted, number_of}
 use Rattle.characters.specs.Digits.{all_digits_of}
 use Rattle.saying.specs.Text.{line_of}

@@ -12,18 +12,11 @@ use checks::Verdict;
 pub const LINE_MOST: usize = 4096;
 
 // Whether a line is a packet line: digits only, an even count of them, and at most 4,096.
-#[tactic(auto, using(crate::proofs::Packets::packet_long, crate::proofs::Packets::packet_odd, crate::proofs::Packets::packet_even))]
+#[tactic(auto, unfolding(crate::specs::Packet::is_packet))]
 pub fn is_packet(line: &[u8]) -> bool
     ensures { result ≡ is_packet line.now }
 {
-    if LINE_MOST < line.len() {
-        return false;
-    }
-    let odd = line.len() % 2;
-    if odd != 0 {
-        return false;
-    }
-    characters::text::all_digits(line)
+    line.len() <= LINE_MOST && line.len() % 2 == 0 && characters::text::all_digits(line)
 }
 
 // Adds frames, one a line.
@@ -48,12 +41,11 @@ pub fn put_closing(kind: u8, number: u8, text: &mut [u8], at: usize) -> usize
 }
 
 // Adds the closing line of a verdict: 0000 accepted, or 01 and the number as one octet.
+#[tactic(auto, unfolding(crate::specs::Packet::closing_of))]
 pub fn put_verdict(v: Verdict, text: &mut [u8], at: usize) -> usize
     ensures { SaysBy (closing_of v) at text result }
 {
     let number = checks::number(v) as u8;
-    if checks::accepted(v) {
-        return put_closing(0, number, text, at);
-    }
-    put_closing(1, number, text, at)
+    let kind = if v.is_ok() { 0 } else { 1 };
+    put_closing(kind, number, text, at)
 }

@@ -10,6 +10,7 @@ use Rattle.map.specs.declared.Profile.{Profile}
 use Rattle.terminal.specs.Outcome.{frames_due}
 use Rattle.hexline.specs.Line.{Station, packet_input, packet_in, packet_after}
 use Rattle.packline.specs.declared.Halt.{Halt}
+use Rattle.packline.specs.declared.Halt.TheVariants.{Character, Odd}
 
 -- The record of a packet line: the line in upper case, its packet's frames with time zero, one a line, and an empty line.
 unfoldable pub record_of : Profile → Station → List ℕ → List ℕ
@@ -19,27 +20,13 @@ record_of p m line = upper_text line ++ (newline ∷ (lines_of (frames_due (pack
 abbrev pub record_after : Profile → Station → List ℕ → Station
 record_after p m line = packet_after p m (packet_in line)
 
--- A reason to stop that tells no character.
-abbrev pub halt_by : ℕ → Halt
-halt_by kind = record { kind = kind; place = 0; octet = 0 }
-
--- Why a program stops at a line: it does not; the line is too long; a character is no digit; the digits are odd.
-abbrev pub goes_on : Halt
-goes_on = halt_by 0
-
-abbrev pub halt_long : Halt
-halt_long = halt_by 1
-
-abbrev pub halt_odd : Halt
-halt_odd = halt_by 3
-
 -- A character that is no digit: its place, from 1, and its octet.
 abbrev pub halt_character : List ℕ → Halt
-halt_character line = record { kind = 2; place = bad_place line + 1; octet = octet line (bad_place line) }
+halt_character line = Character (bad_place line + 1) (octet line (bad_place line))
 
 -- Why a line that is no packet line is refused, where it is not too long: its first character that is no digit, from 1, else its odd digits.
 unfoldable pub halt_of : List ℕ → Halt
-halt_of line = cond (all_digits_of line) halt_odd (halt_character line)
+halt_of line = cond (all_digits_of line) Odd (halt_character line)
 
 -- What is said of it: `refused 70` and the number of the line.
 abbrev pub refused_at : ℕ → List ℕ

@@ -7,38 +7,22 @@ ghost use Rattle.lines.specs.Lines.{newline};
 ghost use Rattle.saying.specs.Text.{SaysBy};
 ghost use Rattle.packetline.specs.Packet.{lines_of};
 ghost use Rattle.hexline.specs.Said.{SaidBy};
-ghost use Rattle.packline.specs.Record.{record_of, record_after, halt_by, halt_of, refused_at};
+ghost use Rattle.packline.specs.Record.{record_of, record_after, halt_of, refused_at};
 
 use decide::State;
 use hexline::Written;
 use map::Profile;
+use stating::fault::Fault;
 
-// Why a program stops at a line.
-pub const GOES_ON: u8 = 0;
-
-pub const LONG: u8 = 1;
-
-pub const CHARACTER: u8 = 2;
-
-pub const ODD: u8 = 3;
-
-// Why a program stops at a line, and for a character its place, from 1, and its octet.
+// Why a program stops at a line: a fault of a unit file; a line that is too long, a character that is no digit, with its place from 1 and its octet, or odd digits; a line that differs; or a record without packets.
 #[derive(Clone, Copy)]
-pub struct Halt {
-    pub kind: u8,
-    pub place: usize,
-    pub octet: u8,
-}
-
-// A reason to stop that tells no character.
-pub fn stops(kind: u8) -> Halt
-    ensures { result ≡ halt_by kind }
-{
-    Halt {
-        kind,
-        place: 0,
-        octet: 0,
-    }
+pub enum Halt {
+    Unit(Fault),
+    Long,
+    Character { place: usize, octet: u8 },
+    Odd,
+    Differs,
+    NoPacket,
 }
 
 // The frames at the front of the output buffer, one a line, then an empty line.
@@ -66,29 +50,24 @@ pub fn record(
     let first = saying::end(text, behind);
     let outcome = hexline::serve(profile, state, line, store, out);
     let end = close(outcome.written, out, text, first);
-    let next = outcome.state;
     Written {
         at: end,
-        state: next,
+        state: outcome.state,
     }
 }
 
 // Why a line that is no packet line is refused, where it is not too long.
+#[tactic(auto, using(crate::proofs::Halts::halt_odd_lem, crate::proofs::Halts::halt_character))]
 pub fn why(line: &[u8]) -> Halt
     ensures { result ≡ halt_of line.now }
 {
     let at = characters::text::bad_place(line);
-    if line.len() <= at {
-        return Halt {
-            kind: ODD,
-            place: 0,
-            octet: 0,
-        };
-    }
-    Halt {
-        kind: CHARACTER,
-        place: at + 1,
-        octet: line[at],
+    match line.get(at) {
+        Some(octet) => Halt::Character {
+            place: at + 1,
+            octet: *octet,
+        },
+        None => Halt::Odd,
     }
 }
 

@@ -1,7 +1,8 @@
 -- docs/UNITS.md, "`pack UNIT [PACKETS]`": what is said to a line, and what goes on from it.
 use Rattle.std.specs.Prelude.{Bool, true, false, cond, List, [], ◌∷◌, ℕ}
 use Rattle.packetline.specs.Packet.{is_packet}
-use Rattle.packline.specs.Record.{record_of, record_after, halt_long, halt_of, refused_at}
+use Rattle.packline.specs.Record.{record_of, record_after, halt_of, refused_at}
+use Rattle.packline.specs.declared.Halt.TheVariants.{Long}
 use Rattle.grouping.specs.Group.{next_number}
 use Rattle.desk.specs.declared.Desk.{Desk}
 use Rattle.desk.specs.Place.{Place, profile_at, station_at, counted, halting, is_halted, at_desk, counting, at_station}
@@ -34,4 +35,4 @@ unfoldable pub pack_long_says : Desk → List ℕ
 pack_long_says d = cond (is_halted d) [] (refused_at (next_number d.number))
 
 unfoldable pub pack_long_desk : Desk → Desk
-pack_long_desk d = cond (is_halted d) d (halting (counted d) halt_long)
+pack_long_desk d = cond (is_halted d) d (halting (counted d) Long)

@@ -9,7 +9,7 @@ ghost use Rattle.desk.specs.Did.{DidBy};
 ghost use Rattle.packstep.specs.Step.{record_says, record_becomes, pack_says, pack_becomes, pack_long_says, pack_long_desk};
 
 use desk::{Desk, Done};
-use packline::{Halt, LONG};
+use packline::Halt;
 
 // The record of a packet line.
 fn record(
@@ -22,12 +22,10 @@ fn record(
 ) -> Done
     ensures { DidBy (λ m. record_says m line.now) (λ m. record_becomes m line.now) d at store out text result }
 {
-    let draft = d.draft;
-    let w = packline::record(draft.profile, d.state, line, store, out, text, at);
-    let state = w.state;
+    let w = packline::record(d.draft.profile, d.state, line, store, out, text, at);
     Done {
         at: w.at,
-        desk: desk::with_state(d, state),
+        desk: desk::with_state(d, w.state),
     }
 }
 
@@ -44,6 +42,7 @@ fn refused(d: Desk, halt: Halt, text: &mut [u8], at: usize) -> Done
 }
 
 // The answer of `pack` to a line.
+#[tactic(auto, using(octets::proofs::Laid::laid_none), unfolding(crate::specs::Step::pack_says, crate::specs::Step::pack_becomes))]
 pub fn pack_answer(
     d: Desk,
     line: &[u8],
@@ -58,7 +57,7 @@ pub fn pack_answer(
         return desk::nothing(d, text, at);
     }
     let next = desk::counted(d);
-    if line.len() == 0 {
+    if line.is_empty() {
         return desk::nothing(next, text, at);
     }
     if packetline::is_packet(line) {
@@ -68,6 +67,7 @@ pub fn pack_answer(
 }
 
 // The answer of `pack` to a line that is too long.
+#[tactic(auto, using(octets::proofs::Laid::laid_none), unfolding(crate::specs::Step::pack_long_says, crate::specs::Step::pack_long_desk))]
 pub fn pack_long(d: Desk, text: &mut [u8], at: usize) -> Done
     ensures says_by { SaysBy (pack_long_says d) at text result.at }
     ensures desk_value { result.desk ≡ pack_long_desk d }
@@ -75,10 +75,5 @@ pub fn pack_long(d: Desk, text: &mut [u8], at: usize) -> Done
     if desk::is_halted(d) {
         return desk::nothing(d, text, at);
     }
-    let halt = Halt {
-        kind: LONG,
-        place: 0,
-        octet: 0,
-    };
-    refused(desk::counted(d), halt, text, at)
+    refused(desk::counted(d), Halt::Long, text, at)
 }

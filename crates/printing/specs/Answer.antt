@@ -1,27 +1,37 @@
 -- docs/CASES.md, the table's last column: the text of what the terminal, the reader and the writer answer.
-use Rattle.std.specs.Prelude.{Bool, cond, List, [], ◌∷◌, ◌++◌, ℕ, ◌%◌, eqb}
+use Rattle.std.specs.Prelude.{List, [], ◌∷◌, ◌++◌, ℕ, ◌%◌, Option, Some, None, Ok, Err}
 use Rattle.octets.specs.Numbers.{octets16}
 use Rattle.characters.specs.Digits.{text_of}
 use Rattle.lines.specs.Lines.{newline}
-use Rattle.checks.specs.declared.Verdict.{Verdict}
-use Rattle.checks.specs.Verdict.{is_accepted, number_of, detail_of}
+use Rattle.checks.specs.Verdict.{Verdict}
+use Rattle.checks.specs.Verdict.{check_number, detail_of}
 use Rattle.tc.specs.declared.Fields.{Fields}
-use Rattle.writer.specs.declared.Written.{Written}
-use Rattle.writer.specs.Writer.{written_number, written_length}
+use Rattle.writer.specs.Writer.{Written}
+use Rattle.writer.specs.Writer.{error_number, written_length}
 use Rattle.counts.specs.declared.Counts.{Counts}
 use Rattle.saying.specs.Text.{spaced}
 
--- 0000, or 01 and the number as one octet.
-unfoldable pub code_text : Bool → ℕ → List ℕ
-code_text accepted number = cond accepted (text_of (0 ∷ 0 ∷ [])) (text_of (1 ∷ number % 256 ∷ []))
+-- 0000, or 01 and the number of a refusal as one octet.
+unfoldable pub code_text : Option ℕ → List ℕ
+code_text None = text_of (0 ∷ 0 ∷ [])
+code_text (Some number) = text_of (1 ∷ number % 256 ∷ [])
 
 -- A number of two octets behind a space.
 abbrev pub field : ℕ → List ℕ
 field x = spaced (octets16 (x % 65536))
 
+-- The number of a refusal, of a packet and of a write.
+abbrev pub refused_number : Verdict → Option ℕ
+refused_number (Ok _) = None
+refused_number (Err r) = Some (check_number r.check)
+
+abbrev pub unwritten_number : Written → Option ℕ
+unwritten_number (Ok n) = None
+unwritten_number (Err e) = Some (error_number e)
+
 -- A verdict: its code and the detail.
 unfoldable pub verdict_text : Verdict → List ℕ
-verdict_text v = code_text (is_accepted v) (number_of v) ++ spaced (octets16 (detail_of v))
+verdict_text v = code_text (refused_number v) ++ spaced (octets16 (detail_of v))
 
 -- The octets written, the count of category 1 and of category 9, and the end of the line.
 unfoldable pub counts_text : ℕ → Counts → List ℕ
@@ -36,10 +46,6 @@ header_text f =
 unfoldable pub fields_text : Fields → List ℕ
 fields_text f = spaced (octets16 f.apid) ++ (spaced (octets16 f.count) ++ header_text f)
 
--- A code and a length.
-unfoldable pub length_text : Bool → ℕ → ℕ → List ℕ
-length_text accepted number length = code_text accepted number ++ field length
-
--- The writer's answer and the packet's length; number 0 is a packet written.
+-- The writer's answer and the packet's length, 0 where it refused.
 unfoldable pub written_text : Written → List ℕ
-written_text w = length_text (eqb (written_number w) 0) (written_number w) (written_length w)
+written_text w = code_text (unwritten_number w) ++ field (written_length w)

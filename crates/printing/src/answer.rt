@@ -1,6 +1,6 @@
 // The text of what the terminal, the reader and the writer answer.
 ghost use Rattle.saying.specs.Text.{SaysBy};
-ghost use Rattle.printing.specs.Answer.{code_text, verdict_text, counts_text, header_text, fields_text, length_text, written_text};
+ghost use Rattle.printing.specs.Answer.{code_text, verdict_text, counts_text, header_text, fields_text, written_text};
 
 use checks::Verdict;
 use counts::Counts;
@@ -10,21 +10,24 @@ use writer::Written;
 // One more than a number of 16 bits can say.
 const FIELD: usize = 65536;
 
-// 0000 for acceptance, else 01 and the number.
-fn put_code(text: &mut [u8], at: usize, accepted: bool, number: u16) -> usize
-    ensures { SaysBy (code_text accepted number) at text result }
+// 0000 for acceptance, else 01 and the low octet of the refusal's number.
+#[tactic(auto, unfolding(crate::specs::Answer::code_text))]
+fn put_code(text: &mut [u8], at: usize, refused: Option<u16>) -> usize
+    ensures { SaysBy (code_text refused) at text result }
 {
-    if accepted {
-        return saying::octets(text, at, &[0, 0]);
-    }
-    saying::octets(text, at, &[1, (number % octets::numbers::VALUES) as u8])
+    let code = match refused {
+        None => [0, 0],
+        Some(number) => [1, (number % 256) as u8],
+    };
+    saying::octets(text, at, &code)
 }
 
 // A verdict and its detail.
 pub fn put_verdict(text: &mut [u8], at: usize, v: Verdict) -> usize
     ensures { SaysBy (verdict_text v) at text result }
 {
-    let first = put_code(text, at, checks::accepted(v), checks::number(v));
+    let refused = v.err().map(|refusal| refusal.check.into());
+    let first = put_code(text, at, refused);
     saying::number(text, first, checks::detail(v))
 }
 
@@ -62,20 +65,6 @@ pub fn put_fields(text: &mut [u8], at: usize, f: Fields) -> usize
 pub fn put_written(text: &mut [u8], at: usize, written: Written) -> usize
     ensures { SaysBy (written_text written) at text result }
 {
-    let number = writer::written_number(written);
-    put_length(
-        text,
-        at,
-        number == 0,
-        number,
-        writer::written_length(written),
-    )
-}
-
-// An answer's code and a length.
-fn put_length(text: &mut [u8], at: usize, accepted: bool, number: u16, length: usize) -> usize
-    ensures { SaysBy (length_text accepted number length) at text result }
-{
-    let first = put_code(text, at, accepted, number);
-    saying::number(text, first, (length % FIELD) as u16)
+    let first = put_code(text, at, written.err().map(u16::from));
+    saying::number(text, first, (written.unwrap_or(0) % FIELD) as u16)
 }

@@ -1,33 +1,34 @@
 -- docs/UNITS.md, "Items": `put`, what is wrong with it, and the store behind it.
-use Rattle.std.specs.Prelude.{cond, List, ℕ, ◌+◌, drop, eqb, leb}
+use Rattle.std.specs.Prelude.{cond, Result, Ok, Err, List, ℕ, ◌+◌, drop, leb}
 use Rattle.octets.specs.Copy.{laid}
 use Rattle.numerals.specs.Numbers.{number_most}
-use Rattle.stating.specs.Faults.{fine, put_early, put_form, put_past, number_large}
-use Rattle.stating.specs.Stating.{words_behind, behind_word, number_fault, number_value, digits_from, octets_stated}
-use Rattle.arealine.specs.Area.{first_fault}
+use Rattle.stating.specs.declared.fault.Fault.{Fault}
+use Rattle.stating.specs.declared.fault.Fault.TheVariants.{PutEarly, PutForm, PutPast, NumberLarge}
+use Rattle.stating.specs.Stating.{and_then, is_some, number_stated, digits_from, octets_stated}
 use Rattle.unit.specs.declared.Draft.{Draft}
-use Rattle.putting.specs.declared.Putting.{Putting}
-use Rattle.unit.specs.Unit.{missing}
 
--- One or more words of octets, wholly inside a store of so many, from a place on.
-unfoldable pub octets_fault : List (List ℕ) → ℕ → ℕ → ℕ
-octets_fault ws to stored =
-    first_fault (missing put_form ws)
-    (first_fault (digits_from 0 ws).fault
-    (cond (leb (to + (digits_from 0 ws).count) stored) fine put_past))
+-- One or more words of octets, wholly inside a store of so many, from a place on: that place.
+unfoldable pub octets_put : ℕ → List (List ℕ) → ℕ → Result ℕ Fault
+octets_put stored ws to =
+    cond (is_some ws)
+    (and_then (digits_from 0 ws) (λ count. cond (leb (to + count) stored) (Ok to) (Err PutPast)))
+    (Err PutForm)
 
--- `put AT HEX ..`: behind `store`.
-unfoldable pub put_fault : Draft → List (List ℕ) → ℕ
-put_fault d ws =
+-- The place from which on octets are put: behind `store`.
+unfoldable pub place_put : Draft → List (List ℕ) → Result ℕ Fault
+place_put d ws =
     cond d.store
-    (first_fault (number_fault number_most put_form number_large ws) (octets_fault (drop 1 ws) (number_value ws) d.stored))
-    put_early
+    (and_then (number_stated number_most PutForm NumberLarge ws) (octets_put d.stored (drop 1 ws)))
+    (Err PutEarly)
 
--- Where octets are put, and the place of the line from which on they stand.
-abbrev pub put_at : Draft → List ℕ → ℕ → Putting
-put_at d line at =
-    record { to = number_value (words_behind line at); at = behind_word line at; fault = put_fault d (words_behind line at) }
+-- `put AT HEX ..`: the unit stays as it is.
+abbrev pub put_stated : Draft → List (List ℕ) → Result Draft Fault
+put_stated d ws = and_then (place_put d ws) (λ to. Ok d)
 
--- The store with them, where nothing is wrong.
+-- The store with the octets; where something is wrong, as it was.
+abbrev pub laid_from : List ℕ → List (List ℕ) → Result ℕ Fault → List ℕ
+laid_from store ws (Ok to) = laid store to (octets_stated ws)
+laid_from store ws (Err fault) = store
+
 abbrev pub put_into : Draft → List ℕ → List (List ℕ) → List ℕ
-put_into d store ws = cond (eqb (put_fault d ws) fine) (laid store (number_value ws) (octets_stated (drop 1 ws))) store
+put_into d store ws = laid_from store (drop 1 ws) (place_put d ws)

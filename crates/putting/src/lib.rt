@@ -1,83 +1,50 @@
 // Octets that a line of a unit file puts into the store.
 #![tactic(auto)]
 
-ghost use Rattle.std.specs.Prelude.{◌≡◌, ◌+◌, leb};
-ghost use Rattle.stating.specs.Stating.{words_behind};
-ghost use Rattle.putting.specs.Putting.{octets_fault, put_at, put_fault, put_into};
-ghost use Rattle.unit.specs.Unit.{stated};
+ghost use Rattle.std.specs.Prelude.{◌≡◌, OnOk, ◌+◌, drop, leb};
+ghost use Rattle.stating.specs.Stating.{words_left};
+ghost use Rattle.putting.specs.Putting.{octets_put, place_put, put_stated, put_into};
 
-use stating::fault;
-use unit::{Draft, Stated};
-
-// The largest number.
-const NUMBER_MOST: u32 = 4294967295;
-
-// Where octets are put, from which place of the line on they stand, and what is wrong with them.
-#[derive(Clone, Copy)]
-struct Putting {
-    to: u32,
-    at: usize,
-    fault: u8,
-}
+use stating::Words;
+use stating::fault::Fault;
+use unit::Draft;
 
 // Whether so many octets from a place on lie inside a store.
 fn lie_inside(to: u32, count: usize, stored: usize) -> bool
     ensures { result ≡ leb (to + count) stored }
 {
-    let at = to as usize;
-    if stored < at {
-        return false;
-    }
-    count <= stored - at
+    (to as usize)
+        .checked_add(count)
+        .is_some_and(|end| end <= stored)
 }
 
-// What is wrong with the words of octets that are put behind their place.
-fn put_octets(line: &[u8], at: usize, to: u32, stored: usize) -> u8
-    ensures { result ≡ octets_fault (words_behind line.now at) to stored }
+// The place at which the words of octets behind it are put.
+#[tactic(auto, unfolding(crate::specs::Putting::place_put, crate::specs::Putting::octets_put))]
+fn place(d: Draft, words: &mut Words) -> Result<u32, Fault>
+    ensures value { result ≡ place_put d (words_left words.old) }
+    ensures behind { OnOk result (words_left words.new ≡ drop 1 (words_left words.old)) }
 {
-    if !unit::more(line, at) {
-        return fault::PUT_FORM;
-    }
-    let n = stating::digits(line, at);
-    if n.fault != fault::FINE {
-        return n.fault;
-    }
-    if lie_inside(to, n.count, stored) {
-        return fault::FINE;
-    }
-    fault::PUT_PAST
-}
-
-// `put AT HEX ..`, before anything is put.
-fn put_at(d: Draft, line: &[u8], at: usize) -> Putting
-    ensures { result ≡ put_at d line.now at }
-{
-    let n = stating::number(line, at, NUMBER_MOST, fault::PUT_FORM, fault::NUMBER_LARGE);
-    let mut p = Putting {
-        to: n.value,
-        at: n.behind,
-        fault: n.fault,
-    };
     if !d.store {
-        p.fault = fault::PUT_EARLY;
-        return p;
+        return Err(Fault::PutEarly);
     }
-    if n.fault != fault::FINE {
-        return p;
+    let to = words.number(u32::MAX, Fault::PutForm, Fault::NumberLarge)?;
+    if !words.more() {
+        return Err(Fault::PutForm);
     }
-    p.fault = put_octets(line, n.behind, n.value, d.stored);
-    p
+    let count = words.digits()?;
+    if !lie_inside(to, count, d.stored) {
+        return Err(Fault::PutPast);
+    }
+    Ok(to)
 }
 
 // `put AT HEX ..`.
-pub fn put(d: Draft, line: &[u8], at: usize, store: &mut [u8]) -> Stated
-    ensures value { result ≡ stated d (put_fault d (words_behind line.now at)) d }
-    ensures store_after { store.new ≡ put_into d store.old (words_behind line.now at) }
+pub fn put(d: Draft, words: Words, store: &mut [u8]) -> Result<Draft, Fault>
+    ensures value { result ≡ put_stated d (words_left words.entry) }
+    ensures store_after { store.new ≡ put_into d store.old (words_left words.entry) }
 {
-    let p = put_at(d, line, at);
-    if p.fault != fault::FINE {
-        return unit::told(d, p.fault);
-    }
-    stating::lay(line, p.at, store, p.to as usize);
-    unit::told(d, fault::FINE)
+    let mut left = words;
+    let to = place(d, &mut left)?;
+    left.lay(store, to as usize);
+    Ok(d)
 }

@@ -1,5 +1,6 @@
 -- The reader's verdict, check by check: each refusal where its check is the first that fails, and acceptance where none does.
 -- Assumes nothing.
+use Rattle.std.specs.Prelude.{Ok, Err}
 use mathlib.Core.Path.{◌≡◌}
 use mathlib.Core.Bool.{true, false}
 use mathlib.Core.List.{List}
@@ -9,7 +10,6 @@ use lib.Dec.{eqb}
 use borrow.Author.Tests.{le-leb, lt-leb, eq-eqb, eqb-true}
 use Rattle.octets.specs.Numbers.{word16}
 use Rattle.checks.specs.declared.Check.TheVariants.{Short, Length, Control, Header}
-use Rattle.checks.specs.declared.Verdict.TheVariants.{Accepted, Refused}
 use Rattle.checks.specs.Verdict.{refusal}
 use Rattle.checks.specs.Table.{answer}
 use Rattle.tc.specs.Layout.{right_control}
@@ -29,22 +29,22 @@ control_is p t = eqb-true _ _ t
 -- ---- the verdict
 
 module _ (p : List ℕ) where
-  pub judged-short : length p < least_octets → judged p ≡ Refused (refusal Short 0)
+  pub judged-short : length p < least_octets → judged p ≡ Err (refusal Short 0)
   unfolding judged reader_rows answer
   judged-short h = simp (lt-leb _ _ h)
 
-  pub judged-length : least_octets ≤ length p → length_right p ≡ false → judged p ≡ Refused (refusal Length (min (length p) most_detail))
+  pub judged-length : least_octets ≤ length p → length_right p ≡ false → judged p ≡ Err (refusal Length (min (length p) most_detail))
   unfolding judged reader_rows answer
   judged-length h l = simp (le-leb _ _ h, l)
 
-  pub judged_control : least_octets ≤ length p → length_right p ≡ true → control_right p ≡ false → judged p ≡ Refused (refusal Control (right_control p))
+  pub judged_control : least_octets ≤ length p → length_right p ≡ true → control_right p ≡ false → judged p ≡ Err (refusal Control (right_control p))
   unfolding judged reader_rows answer
   judged_control h l k = simp (le-leb _ _ h, l, k)
 
-  pub judged-header : least_octets ≤ length p → length_right p ≡ true → control_right p ≡ true → eqb (header_fault p) 0 ≡ false → judged p ≡ Refused (refusal Header (header_fault p))
+  pub judged-header : least_octets ≤ length p → length_right p ≡ true → control_right p ≡ true → eqb (header_fault p) 0 ≡ false → judged p ≡ Err (refusal Header (header_fault p))
   unfolding judged reader_rows answer
   judged-header h l k f = simp (le-leb _ _ h, l, k, f)
 
-  pub judged-accepted : least_octets ≤ length p → length_right p ≡ true → control_right p ≡ true → eqb (header_fault p) 0 ≡ true → judged p ≡ Accepted
+  pub judged-accepted : least_octets ≤ length p → length_right p ≡ true → control_right p ≡ true → eqb (header_fault p) 0 ≡ true → judged p ≡ Ok tt
   unfolding judged reader_rows answer
   judged-accepted h l k f = simp (le-leb _ _ h, l, k, f)

@@ -1,5 +1,6 @@
 -- What is laid out reads back, and what reads cleanly is laid out as the same octets.
 -- Assumes nothing.
+use Rattle.std.specs.Prelude.{Ok}
 use mathlib.Core.Path.{◌≡◌, sym, ap, ap₂, ◌∙◌}
 use mathlib.Core.Bool.{Bool, true, ◌&&◌, and-eq-true_iff}
 use mathlib.Core.List.{List, [], ◌∷◌, ◌++◌}
@@ -13,7 +14,6 @@ use Rattle.octets.specs.Numbers.{Octets, octet, word16, octets16}
 use Rattle.fields.specs.Fields.{packet_id, id_of, sequence, control_of, header, header_of}
 use Rattle.octets.proofs.Between.{between-eq, between-length}
 use Rattle.octets.proofs.Words.{word16_behind, octets16_of_word16, run, run_take, last_two}
-use Rattle.checks.specs.declared.Verdict.TheVariants.{Accepted}
 use Rattle.checks.specs.Verdict.{is_accepted}
 use Rattle.checks.specs.Table.{AllHold}
 use Rattle.checks.proofs.Verdicts.{accepted_holds}
@@ -81,7 +81,7 @@ module _ (f : Fields) (application : List ℕ) (v : Valid f) (short : length app
       ∙ word16_behind (body_of f application) (error_control f (body_of f application)) []
       ∙ sym (ap₂ error_control packet_fields packet_covered))
 
-  pub packet_judged : judged p ≡ Accepted
+  pub packet_judged : judged p ≡ Ok tt
   packet_judged =
       judged-accepted p (omega (arith, size)) packet_length_right packet_control_right (eq-eqb _ _ packet_header_fault)
 
@@ -104,7 +104,7 @@ record Clean (p : List ℕ) : Type 0 where
   flags : (sequence (word16 p 2)).flags ≡ 3
   pus : (header (octet p 6)).version ≡ 0
 
-clean : (p : List ℕ) → judged p ≡ Accepted → Clean p
+clean : (p : List ℕ) → judged p ≡ Ok tt → Clean p
 unfolding reader_rows length_right control_right header_fault first_fault AllHold judged
 clean p h =
     let rows : AllHold (reader_rows p) = accepted_holds (reader_rows p) (ap is_accepted h) in
@@ -125,7 +125,7 @@ clean p h =
     }
 
 -- A packet that reads cleanly is what its own fields and application data lay out.
-module _ (p : List ℕ) (octets : Octets p) (h : judged p ≡ Accepted) where
+module _ (p : List ℕ) (octets : Octets p) (h : judged p ≡ Ok tt) where
   k : Clean p
   k = clean p h
 
@@ -175,7 +175,7 @@ module _ (p : List ℕ) (octets : Octets p) (h : judged p ≡ Accepted) where
 
 -- What a packet reads as: accepted, with those fields and that data.
 pub record ReadsAs (f : Fields) (application packet : List ℕ) : Type 0 where
-  pub verdict : (reading_of packet).verdict ≡ Accepted
+  pub verdict : (reading_of packet).verdict ≡ Ok tt
   pub fields : (reading_of packet).fields ≡ f
   pub same : data_read packet ≡ application
 
@@ -183,7 +183,7 @@ pub record ReadsAs (f : Fields) (application packet : List ℕ) : Type 0 where
 pub packet_reads : (f : Fields) (application : List ℕ) → Valid f → length application ≤ data_most → ReadsAs f application (packet_of f application)
 unfolding reading_of application_of
 packet_reads f application v short =
-    let accepted : judged (packet_of f application) ≡ Accepted = packet_judged f application v short in
+    let accepted : judged (packet_of f application) ≡ Ok tt = packet_judged f application v short in
     record { verdict = accepted; fields = rw accepted (packet_fields f application v short); same = rw accepted (packet_application f application v short) }
 
 -- What a packet that reads cleanly is: its own fields and data, laid out.
@@ -198,7 +198,7 @@ unfolding fields_of
 fields_valid p = record { apid = omega arith; count = omega arith; checksum = omega arith; ack = omega arith }
 
 -- So is every list of octets that reads cleanly.
-pub clean_reads : (p : List ℕ) → Octets p → (reading_of p).verdict ≡ Accepted → LaidOut p
+pub clean_reads : (p : List ℕ) → Octets p → (reading_of p).verdict ≡ Ok tt → LaidOut p
 unfolding reading_of application_of
 clean_reads p octets h =
     let n : length (application_of p) ≡ length p - 12 = application_length p octets h in

@@ -1,7 +1,7 @@
 -- Document 01, "Refusal numbers in checking order": the reader's checks 42, 1, 2 and 16, and what it returns.
 use Rattle.std.specs.Prelude.{◌≡◌, Bool, cond, List, [], ◌∷◌, ℕ, ◌-◌, min, length, leb, eqb}
 use Rattle.octets.specs.Numbers.{word16}
-use Rattle.checks.specs.declared.Verdict.{Verdict}
+use Rattle.checks.specs.Verdict.{Verdict}
 use Rattle.checks.specs.declared.Check.TheVariants.{Short, Length, Control, Header as BadHeader}
 use Rattle.checks.specs.declared.Refusal.{Refusal}
 use Rattle.checks.specs.Table.{Row}

@@ -20,19 +20,18 @@ pub struct Reading {
 }
 
 // Reads a packet.
+#[tactic(auto, unfolding(crate::specs::Reader::reading_of))]
 pub fn read(p: &[u8]) -> Reading
     ensures { Reads p.now result }
 {
-    let verdict = judge(p);
-    if checks::accepted(verdict) {
-        Reading {
-            verdict,
+    match judge(p) {
+        Ok(()) => Reading {
+            verdict: Ok(()),
             fields: tc::places::fields(p),
             data: tc::places::data_span(p),
-        }
-    } else {
-        Reading {
-            verdict,
+        },
+        Err(refusal) => Reading {
+            verdict: Err(refusal),
             fields: Fields {
                 apid: 0,
                 count: 0,
@@ -43,11 +42,12 @@ pub fn read(p: &[u8]) -> Reading
                 pad: 0,
             },
             data: Span { from: 0, to: 0 },
-        }
+        },
     }
 }
 
 // The verdict of the reader's checks.
+#[tactic(auto, using(laws::proofs::First::wrong_is, laws::proofs::First::wrong_none), unfolding(crate::specs::Reader::judged, crate::specs::Reader::reader_rows, crate::specs::Reader::control_right, checks::specs::Table::answer))]
 fn judge(p: &[u8]) -> Verdict
     ensures { result ≡ judged p.now }
 {
@@ -62,9 +62,8 @@ fn judge(p: &[u8]) -> Verdict
     if received != right {
         return checks::refuse(Check::Control, right);
     }
-    let fault = heading::header_fault(p);
-    if fault != 0 {
+    if let Some(fault) = heading::header_fault(p) {
         return checks::refuse(Check::Header, fault);
     }
-    Verdict::Accepted
+    Ok(())
 }

@@ -1,6 +1,6 @@
--- Commands that set and commands that print, and the octets that a line gives.
+-- Commands that set, and the octets that a line gives.
 -- Assumes nothing.
-use mathlib.Core.Path.{◌≡◌, refl, ap, ap₂, ◌∙◌}
+use mathlib.Core.Path.{◌≡◌, ap, ap₂, ◌∙◌}
 use mathlib.Core.List.{List}
 use Prim.Native.Nat.{ℕ, ◌+◌, ◌/◌, min}
 use native.Mathlib.Omega.{arith}
@@ -9,14 +9,15 @@ use Rattle.laws.proofs.Tests.{by-test}
 use Rattle.octets.specs.Copy.{laid}
 use Rattle.characters.specs.Digits.{octets_in}
 use Rattle.characters.proofs.Texts.{decoded_front}
+use Rattle.std.specs.Prelude.{Option}
+use Rattle.commands.specs.declared.form.Command.{Command}
 use Rattle.commands.specs.declared.session.Session.{Session}
 use Rattle.commands.specs.Form.{is_line, digits_of, given_in, command_of, command_in}
 use Rattle.commands.proofs.Forms.{no_command, line_most_lem}
-use Rattle.saying.specs.Text.{Says}
 use Rattle.saying.proofs.Saying.{says_none}
 use Rattle.showing.specs.declared.Served.{Served}
 use Rattle.showing.specs.Shows.{Bench, Serves}
-use Rattle.replies.specs.Does.{setting, printing, does}
+use Rattle.replies.specs.Does.{setting, does}
 
 -- A command that prints nothing leaves the text, and the place at most one past its end.
 pub sets : {session s : Session} {store out store' out' : List ℕ} {at place : ℕ} {text : List ℕ} {r : Served}
@@ -29,18 +30,6 @@ sets {place = place} {r = r} e f g h k =
       session_is = ap (λ (v : Served). v.session) e ∙ g;
       store_is = h;
       out_is = k;
-    }
-
--- A command that prints changes nothing else.
-pub prints : {b : Bench} {said text text' : List ℕ} {at place : ℕ} {r : Served}
-    → r ≡ record { session = b.session; at = place } → Says said at text place text'
-    → Serves (printing b said) at text r b.store b.out text'
-prints e h =
-    record {
-      says = rw (ap (λ (v : Served). v.at) e) h;
-      session_is = ap (λ (v : Served). v.session) e;
-      store_is = refl;
-      out_is = refl;
     }
 
 -- Doing a line's command with the octets at the front of what holds them is doing it with those that the line gives: of a bad line they may be cut, and nothing is done with them.
@@ -57,7 +46,7 @@ served_given line octets given b room e =
     (λ bad. rw (no_command line given bad, no_command line (given_in line) bad))
 
 -- What the command of a line does with the octets decoded from its digits is what the line asks.
-pub line_served : (line octets : List ℕ) (b : Bench) {octets' digits given : List ℕ} {command : ℕ} {at : ℕ} {text : List ℕ} {r : Served} {store out text' : List ℕ}
+pub line_served : (line octets : List ℕ) (b : Bench) {octets' digits given : List ℕ} {command : Option Command} {at : ℕ} {text : List ℕ} {r : Served} {store out text' : List ℕ}
     → length octets ≡ 70000 → digits ≡ digits_of line → octets' ≡ laid octets 0 (octets_in digits) → given ≡ take (length digits / 2) octets'
     → command ≡ command_of line given → Serves (does command b given) at text r store out text'
     → Serves (does (command_in line) b (given_in line)) at text r store out text'

@@ -1,7 +1,8 @@
 -- docs/CASES.md, the table: what each command does, and what it prints.
-use Rattle.std.specs.Prelude.{cond, List, [], ◌∷◌, ℕ, length, eqb}
+use Rattle.std.specs.Prelude.{List, [], ◌∷◌, Option, Some, None, ℕ, length}
 use Rattle.octets.specs.Copy.{laid}
-use Rattle.commands.specs.Letters.{letter_p, letter_s, letter_k, letter_t, letter_b, letter_x, letter_o, letter_m, letter_r, letter_w, letter_c, letter_d, letter_v, letter_f}
+use Rattle.commands.specs.declared.form.Command.{Command}
+use Rattle.commands.specs.declared.form.Command.TheVariants.{SetProfile, SetStore, SetCounts, SetTime, SetBuffer, Answer, PrintBuffer, PrintStore, Read, Write, Check, CheckFrom, Wider, ReadFrames}
 use Rattle.commands.specs.declared.session.Session.{Session}
 use Rattle.commands.specs.Session.{with_profile, with_state, with_time, with_stored, with_room, profile_in, state_in, time_in, filling}
 use Rattle.saying.specs.Text.{line_of}
@@ -19,21 +20,20 @@ setting s store out = record { said = []; after = record { session = s; store = 
 abbrev pub printing : Bench → List ℕ → Does
 printing b text = record { said = text; after = b }
 
--- Each command, by its letter, given the octets that it takes; any other letter is that of a bad line.
-unfoldable pub does : ℕ → Bench → List ℕ → Does
-does letter b given =
-    cond (eqb letter letter_p) (setting (with_profile b.session (profile_in given)) b.store b.out)
-    (cond (eqb letter letter_s) (setting (with_stored b.session (length given)) (laid b.store 0 given) b.out)
-    (cond (eqb letter letter_k) (setting (with_state b.session (state_in given)) b.store b.out)
-    (cond (eqb letter letter_t) (setting (with_time b.session (time_in given)) b.store b.out)
-    (cond (eqb letter letter_b) (setting (with_room b.session (length (filling given))) b.store (laid b.out 0 (filling given)))
-    (cond (eqb letter letter_x) (answering b given)
-    (cond (eqb letter letter_o) (printing b (line_of (out_now b)))
-    (cond (eqb letter letter_m) (printing b (line_of (store_now b)))
-    (cond (eqb letter letter_r) (printing b (read_text given))
-    (cond (eqb letter letter_w) (printing b (write_text given))
-    (cond (eqb letter letter_c) (printing b (control_text given))
-    (cond (eqb letter letter_d) (printing b (going_on_text given))
-    (cond (eqb letter letter_v) (printing b (wider_text b.session given))
-    (cond (eqb letter letter_f) (printing b (frame_text given))
-    (printing b bad_text))))))))))))))
+-- Each command, given the octets that it takes; a line without one is bad.
+unfoldable pub does : Option Command → Bench → List ℕ → Does
+does None b given = printing b bad_text
+does (Some SetProfile) b given = setting (with_profile b.session (profile_in given)) b.store b.out
+does (Some SetStore) b given = setting (with_stored b.session (length given)) (laid b.store 0 given) b.out
+does (Some SetCounts) b given = setting (with_state b.session (state_in given)) b.store b.out
+does (Some SetTime) b given = setting (with_time b.session (time_in given)) b.store b.out
+does (Some SetBuffer) b given = setting (with_room b.session (length (filling given))) b.store (laid b.out 0 (filling given))
+does (Some Answer) b given = answering b given
+does (Some PrintBuffer) b given = printing b (line_of (out_now b))
+does (Some PrintStore) b given = printing b (line_of (store_now b))
+does (Some Read) b given = printing b (read_text given)
+does (Some Write) b given = printing b (write_text given)
+does (Some Check) b given = printing b (control_text given)
+does (Some CheckFrom) b given = printing b (going_on_text given)
+does (Some Wider) b given = printing b (wider_text b.session given)
+does (Some ReadFrames) b given = printing b (frame_text given)

@@ -8,6 +8,7 @@ ghost use Rattle.saying.specs.Text.{SaysBy};
 ghost use Rattle.showing.specs.Shows.{bench_of, ServedBy};
 ghost use Rattle.replies.specs.Does.{does, bad_text};
 
+use commands::form::Command;
 use commands::session::Session;
 use commands::{form, session};
 use showing::Served;
@@ -41,10 +42,10 @@ pub fn refuse(text: &mut [u8], at: usize) -> usize
     saying::line(text, at, &[2, 0])
 }
 
-// Each command, given the octets that it takes; any other letter is that of a bad line.
+// Each command, given the octets that it takes; a line without one is bad.
 #[tactic(auto, unfolding(crate::specs::Does::does))]
 fn act(
-    letter: u8,
+    asked: Option<Command>,
     s: Session,
     given: &[u8],
     store: &mut [u8],
@@ -52,24 +53,26 @@ fn act(
     text: &mut [u8],
     at: usize,
 ) -> Served
-    ensures { ServedBy (does letter (bench_of s store out) given.now) at store out text result }
+    ensures { ServedBy (does asked (bench_of s store out) given.now) at store out text result }
 {
-    match letter {
-        b'P' => gives(session::set_profile(s, given), saying::kept(text, at)),
-        b'S' => gives(session::set_store(s, given, store), saying::kept(text, at)),
-        b'K' => gives(session::set_counts(s, given), saying::kept(text, at)),
-        b'T' => gives(session::set_time(s, given), saying::kept(text, at)),
-        b'B' => gives(session::set_buffer(s, given, out), saying::kept(text, at)),
-        b'X' => showing::answer(s, given, store, out, text, at),
-        b'O' => gives(s, saying::line(text, at, lines::front(out, s.room))),
-        b'M' => gives(s, saying::line(text, at, lines::front(store, s.stored))),
-        b'R' => gives(s, showing::read(given, text, at)),
-        b'W' => gives(s, showing::write(given, text, at)),
-        b'C' => gives(s, showing::control(given, text, at)),
-        b'D' => gives(s, showing::control_from(given, text, at)),
-        b'V' => gives(s, showing::wider(s, given, text, at)),
-        b'F' => gives(s, fieldtext::put_read(given, text, at)),
-        _ => gives(s, refuse(text, at)),
+    let Some(command) = asked else {
+        return gives(s, refuse(text, at));
+    };
+    match command {
+        Command::SetProfile => gives(session::set_profile(s, given), saying::kept(text, at)),
+        Command::SetStore => gives(session::set_store(s, given, store), saying::kept(text, at)),
+        Command::SetCounts => gives(session::set_counts(s, given), saying::kept(text, at)),
+        Command::SetTime => gives(session::set_time(s, given), saying::kept(text, at)),
+        Command::SetBuffer => gives(session::set_buffer(s, given, out), saying::kept(text, at)),
+        Command::Answer => showing::answer(s, given, store, out, text, at),
+        Command::PrintBuffer => gives(s, saying::line(text, at, lines::front(out, s.room))),
+        Command::PrintStore => gives(s, saying::line(text, at, lines::front(store, s.stored))),
+        Command::Read => gives(s, showing::read(given, text, at)),
+        Command::Write => gives(s, showing::write(given, text, at)),
+        Command::Check => gives(s, showing::control(given, text, at)),
+        Command::CheckFrom => gives(s, showing::control_from(given, text, at)),
+        Command::Wider => gives(s, showing::wider(s, given, text, at)),
+        Command::ReadFrames => gives(s, fieldtext::put_read(given, text, at)),
     }
 }
 

@@ -8,6 +8,7 @@ ghost use Rattle.reports.specs.Source.{echoed, failure, dump_head, check_entry};
 use tm::{HEAD, Stamp};
 
 // Lays a dump report, (6,6), of a block's stored octets.
+#[tactic(auto, using(tm::proofs::Frame::laid_frame_split, tm::proofs::Frame::frame_length))]
 pub fn put_dump(
     out: &mut [u8],
     at: u16,
@@ -21,7 +22,7 @@ pub fn put_dump(
 {
     let first = tm::head(stamp, stored.len() + 8);
     let block = dump_head(memory, start, words);
-    let place = at as usize;
+    let place = usize::from(at);
     octets::copy::put(out, place, &first);
     octets::copy::put(out, place + HEAD, &block);
     octets::copy::put(out, place + HEAD + 8, stored) + HEAD + 8
@@ -81,10 +82,5 @@ pub fn check_entry(start: u32, words: u16, crc: u16) -> [u8; 8]
 pub fn echo_of(packet: &[u8]) -> [u8; 4]
     ensures { result ≡ echoed packet.now }
 {
-    [
-        octets::numbers::octet_at(packet, 0) as u8,
-        octets::numbers::octet_at(packet, 1) as u8,
-        octets::numbers::octet_at(packet, 2) as u8,
-        octets::numbers::octet_at(packet, 3) as u8,
-    ]
+    std::array::from_fn(|place| octets::numbers::one(packet, place))
 }

@@ -1,16 +1,15 @@
 -- An area that is found, or not.
 -- Assumes nothing.
+use Rattle.std.specs.Prelude.{Some, None, Option}
 use mathlib.Core.Path.{◌≡◌, refl, sym}
 use mathlib.Core.Bool.{true, false, false≢true}
 use Rattle.map.specs.declared.Area.{Area}
-use Rattle.map.specs.declared.Found.{Found}
-use Rattle.map.specs.declared.Found.TheVariants.{At, Nothing}
 use Rattle.requests.specs.Request.{is_found}
 
-pub found_is : (f : Found) → is_found f ≡ true → (a : Area) × (f ≡ At a)
-found_is (At a) h = (a, refl)
-found_is Nothing h = absurd (false≢true h)
+pub found_is : (f : Option Area) → is_found f ≡ true → (a : Area) × (f ≡ Some a)
+found_is (Some a) h = (a, refl)
+found_is None h = absurd (false≢true h)
 
-pub found_not : (f : Found) → is_found f ≡ false → f ≡ Nothing
-found_not (At a) h = absurd (false≢true (sym h))
-found_not Nothing h = refl
+pub found_not : (f : Option Area) → is_found f ≡ false → f ≡ None
+found_not (Some a) h = absurd (false≢true (sym h))
+found_not None h = refl

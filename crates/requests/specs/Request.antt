@@ -1,20 +1,17 @@
 -- What a packet asks for, what a profile offers of it, and the area and the blocks that it names.
-use Rattle.std.specs.Prelude.{Bool, true, false, cond, ◌||◌, List, map, ℕ, eqb}
+use Rattle.std.specs.Prelude.{Bool, false, cond, is_some, ◌||◌, List, map, ℕ, eqb, Some, None, Option}
 use Rattle.laws.specs.First.{first_wrong}
 use Rattle.map.specs.declared.Rights.{Rights}
 use Rattle.map.specs.declared.Flags.{Flags}
 use Rattle.map.specs.declared.Area.{Area}
 use Rattle.map.specs.declared.Profile.{Profile}
-use Rattle.map.specs.declared.Found.{Found}
-use Rattle.map.specs.declared.Found.TheVariants.{At, Nothing}
 use Rattle.map.specs.Place.{word_octets, dump_words, used, find_in, inside}
 use Rattle.blocks.specs.declared.Block.{Block}
 use Rattle.blocks.specs.Blocks.{memory_id}
 use Rattle.requests.specs.declared.Action.{Action}
 use Rattle.requests.specs.declared.Action.TheVariants.{Load, Dump, Check}
 use Rattle.requests.specs.declared.Request.TheVariants.{Memory, Connection}
-use Rattle.requests.specs.declared.Asked.{Asked}
-use Rattle.requests.specs.declared.Asked.TheVariants.{Known, Unknown}
+use Rattle.requests.specs.declared.Request.{Request}
 
 -- The types of the services known.
 abbrev pub memory_type : ℕ
@@ -28,15 +25,15 @@ unfoldable pub serves : Flags → ℕ → Bool
 serves f kind = cond (eqb kind memory_type) (f.load || f.dump || f.check) (cond (eqb kind connection_type) f.connection false)
 
 -- What a subtype of service 6 asks for: (6,2), (6,5) and (6,9).
-unfoldable pub memory_asked : ℕ → Asked
+unfoldable pub memory_asked : ℕ → Option Request
 memory_asked subtype =
-    cond (eqb subtype 2) (Known (Memory Load)) (cond (eqb subtype 5) (Known (Memory Dump)) (cond (eqb subtype 9) (Known (Memory Check)) Unknown))
+    cond (eqb subtype 2) (Some (Memory Load)) (cond (eqb subtype 5) (Some (Memory Dump)) (cond (eqb subtype 9) (Some (Memory Check)) None))
 
 -- What a type and subtype ask for.
-unfoldable pub asked_for : ℕ → ℕ → Asked
+unfoldable pub asked_for : ℕ → ℕ → Option Request
 asked_for kind subtype =
     cond (eqb kind memory_type) (memory_asked subtype)
-    (cond (eqb kind connection_type) (cond (eqb subtype 1) (Known Connection) Unknown) Unknown)
+    (cond (eqb kind connection_type) (cond (eqb subtype 1) (Some Connection) None) None)
 
 -- The flag of an action in a profile, and the right in an area.
 abbrev pub flag_for : Flags → Action → Bool
@@ -50,10 +47,10 @@ right_for r Dump = r.dump
 right_for r Check = r.check
 
 -- The request is known, and its flag is on.
-abbrev pub offers : Flags → Asked → Bool
-offers f (Known (Memory action)) = flag_for f action
-offers f (Known Connection) = f.connection
-offers f Unknown = false
+abbrev pub offers : Flags → Option Request → Bool
+offers f (Some (Memory action)) = flag_for f action
+offers f (Some Connection) = f.connection
+offers f None = false
 
 -- How many octets of the application data a word of a block is: a load carries its words, a dump and a check do not.
 abbrev pub carried_by : Action → ℕ
@@ -68,12 +65,11 @@ most_words Dump = dump_words
 most_words Check = 65535
 
 -- The area that application data names by its memory ID.
-abbrev pub area_named : Profile → List ℕ → Found
+abbrev pub area_named : Profile → List ℕ → Option Area
 area_named p application = find_in (memory_id application) (used p)
 
-abbrev pub is_found : Found → Bool
-is_found (At a) = true
-is_found Nothing = false
+abbrev pub is_found : Option Area → Bool
+is_found found = is_some found
 
 -- A block lies wholly inside an area.
 abbrev pub inside_of : Area → Block → Bool

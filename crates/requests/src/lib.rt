@@ -2,6 +2,7 @@
 #![tactic(auto)]
 
 ghost use Rattle.std.specs.Prelude.{◌≡◌};
+ghost use Rattle.laws.specs.First.{wrong_number};
 ghost use Rattle.blocks.specs.Blocks.{blocks_of};
 ghost use Rattle.requests.specs.Request.{serves, asked_for, memory_asked, offers, right_for, carried_by, most_words, outside_of};
 
@@ -24,13 +25,6 @@ pub enum Request {
     Connection,
 }
 
-// What a type and subtype ask for, if they are known.
-#[derive(Clone, Copy)]
-pub enum Asked {
-    Known(Request),
-    Unknown,
-}
-
 // The types of the services known.
 const MEMORY: u8 = 6;
 
@@ -39,39 +33,31 @@ const CONNECTION: u8 = 17;
 // The most words of a block of a dump, and of any other, as many as its field can say.
 pub const DUMP_MOST: u16 = 240;
 
-const FIELD_MOST: u16 = 65535;
+const FIELD_MOST: u16 = u16::MAX;
 
 // What a type and subtype ask for.
 #[tactic(auto, unfolding(crate::specs::Request::asked_for))]
-pub fn asked_for(kind: u8, subtype: u8) -> Asked
+pub fn asked_for(kind: u8, subtype: u8) -> Option<Request>
     ensures { result ≡ asked_for kind subtype }
 {
-    if kind == MEMORY {
-        return memory_asked(subtype);
+    match kind {
+        MEMORY => memory_asked(subtype),
+        CONNECTION if subtype == 1 => Some(Request::Connection),
+        _ => None,
     }
-    if kind == CONNECTION {
-        if subtype == 1 {
-            return Asked::Known(Request::Connection);
-        }
-    }
-    Asked::Unknown
 }
 
 // What a subtype of service 6 asks for.
 #[tactic(auto, unfolding(crate::specs::Request::memory_asked))]
-fn memory_asked(subtype: u8) -> Asked
+fn memory_asked(subtype: u8) -> Option<Request>
     ensures { result ≡ memory_asked subtype }
 {
-    if subtype == 2 {
-        return Asked::Known(Request::Memory(Action::Load));
+    match subtype {
+        2 => Some(Request::Memory(Action::Load)),
+        5 => Some(Request::Memory(Action::Dump)),
+        9 => Some(Request::Memory(Action::Check)),
+        _ => None,
     }
-    if subtype == 5 {
-        return Asked::Known(Request::Memory(Action::Dump));
-    }
-    if subtype == 9 {
-        return Asked::Known(Request::Memory(Action::Check));
-    }
-    Asked::Unknown
 }
 
 // Check 3: the type is 6 or 17, and a flag of it is set.
@@ -79,35 +65,23 @@ fn memory_asked(subtype: u8) -> Asked
 pub fn is_served(flags: Flags, kind: u8) -> bool
     ensures { result ≡ serves flags kind }
 {
-    if kind == MEMORY {
-        if flags.load {
-            return true;
-        }
-        if flags.dump {
-            return true;
-        }
-        return flags.check;
+    match kind {
+        MEMORY => flags.load || flags.dump || flags.check,
+        CONNECTION => flags.connection,
+        _ => false,
     }
-    if kind == CONNECTION {
-        return flags.connection;
-    }
-    false
 }
 
 // Check 4: the request is known, and its flag is on.
-pub fn is_offered(flags: Flags, asked: Asked) -> bool
+pub fn is_offered(flags: Flags, asked: Option<Request>) -> bool
     ensures { result ≡ offers flags asked }
 {
-    let Asked::Known(request) = asked else {
-        return false;
-    };
-    match request {
-        Request::Memory(action) => match action {
-            Action::Load => flags.load,
-            Action::Dump => flags.dump,
-            Action::Check => flags.check,
-        },
-        Request::Connection => flags.connection,
+    match asked {
+        Some(Request::Memory(Action::Load)) => flags.load,
+        Some(Request::Memory(Action::Dump)) => flags.dump,
+        Some(Request::Memory(Action::Check)) => flags.check,
+        Some(Request::Connection) => flags.connection,
+        None => false,
     }
 }
 
@@ -128,8 +102,7 @@ pub fn carried_by(action: Action) -> u8
 {
     match action {
         Action::Load => map::place::word_octets(),
-        Action::Dump => 0,
-        Action::Check => 0,
+        Action::Dump | Action::Check => 0,
     }
 }
 
@@ -138,26 +111,17 @@ pub fn most_words(action: Action) -> u16
     ensures { result ≡ most_words action }
 {
     match action {
-        Action::Load => FIELD_MOST,
+        Action::Load | Action::Check => FIELD_MOST,
         Action::Dump => DUMP_MOST,
-        Action::Check => FIELD_MOST,
     }
 }
 
-// The first block, from 1, that is not wholly inside an area; 0 where all are. A word carries so many octets in the application data.
-pub fn first_outside(area: Area, carried: u8, application: &[u8]) -> u16
-    ensures { result ≡ outside_of area (blocks_of carried application.now) }
+// The first block, from 1, that is not wholly inside an area. A word carries so many octets in the application data.
+#[tactic(auto, unfolding(crate::specs::Request::outside_of))]
+pub fn first_outside(area: Area, carried: u8, application: &[u8]) -> Option<u16>
+    ensures { result ≡ wrong_number (outside_of area (blocks_of carried application.now)) }
 {
-    let count = blocks::reading::block_count(application);
-    let mut place: usize = blocks::FIRST;
-    let mut i: u8 = 0;
-    while i < count {
-        let block = blocks::reading::block_at(carried, application, place);
-        if !map::place::lies_inside(area, block.start, block.words as u32) {
-            return (i as u16) + 1;
-        }
-        place = block.next;
-        i += 1;
-    }
-    0
+    blocks::reading::first_wrong(carried, application, |block| {
+        map::place::lies_inside(area, block.start, u32::from(block.words))
+    })
 }

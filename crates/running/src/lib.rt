@@ -1,169 +1,150 @@
 // The loop of a program over lines: a file is read in parts, what came is fed to the program, and what it says is written.
 #![tactic(auto)]
 
-use console::{Console, Got};
+ghost use Rattle.std.specs.Prelude.{◌≡◌, take};
+ghost use Rattle.console.specs.Marks.{worst};
+ghost use Rattle.console.specs.declared.Mark.TheVariants.{Fine};
+ghost use Rattle.running.specs.Verdicts.{verdict_of, MarksLast, MarksTurn};
+
+use console::{Console, Ended, Mark};
 use desk::Desk;
 use feeding::Progress;
-use judgeline::DIFFERS;
-use packline::GOES_ON;
+use packline::Halt;
 use std::io::{Read, Write};
+use std::ops::ControlFlow;
 use tasks::Task;
 
-// Whether something failed, which was said, and the desk behind the last line.
-#[derive(Clone, Copy)]
-pub struct Ran {
-    pub failed: bool,
-    pub desk: Desk,
+// How much the buffers hold of the input and of the text. The input has room behind the longest open piece, 4,096 characters, for 65,536 more.
+pub const INPUT_ROOM: usize = 69632;
+
+pub const TEXT_ROOM: usize = 65536;
+
+// What a program over lines is lent: the buffers of the input that is not answered yet, of the store, of the terminal's frames, and of the text that waits to be written.
+#[derive(Drop)]
+pub struct Buffers<'a> {
+    pub input: &'a mut [u8],
+    pub store: &'a mut [u8],
+    pub frames: &'a mut [u8],
+    pub text: &'a mut [u8],
 }
 
-// Whether to go on, whether something failed, and how far the program has come.
-#[derive(Clone, Copy)]
-struct Next {
-    on: bool,
-    failed: bool,
-    p: Progress,
-}
-
-// The program goes on.
-fn goes_on(p: Progress) -> Next {
-    Next {
-        on: true,
-        failed: false,
-        p,
+impl<'a> Buffers<'a> {
+    // The buffers with a store of at most so many octets.
+    pub fn with_store(self, octets: usize) -> Buffers<'a>
+        ensures { result.store.now ≡ take octets self.entry.store.now }
+    {
+        let Buffers {
+            input,
+            store,
+            frames,
+            text,
+        } = self;
+        let count = octets.min(store.len());
+        Buffers {
+            input,
+            store: &mut store[..count],
+            frames,
+            text,
+        }
     }
-}
 
-// The program ends.
-fn ends(failed: bool, p: Progress) -> Next {
-    Next {
-        on: false,
-        failed,
-        p,
+    // Runs a program over a file, from a desk on, and gives the desk behind the last line. A proved loop has to end, and nothing says that the input does. So the loop counts its turns, up to a number that no run uses up.
+    pub fn run<O: Write + Drop, E: Write + Drop, F: Read>(
+        &mut self,
+        console: &mut Console<O, E>,
+        task: Task,
+        file: &mut F,
+        desk: Desk,
+    ) -> Result<Desk, Ended>
+        ensures { verdict_of task desk ≡ Fine → MarksLast task console.old result console.new }
+    {
+        let mut p = feeding::start(desk);
+        for _ in 0..u64::MAX {
+            match self.turn(console, task, file, p)? {
+                ControlFlow::Continue(next) => p = next,
+                ControlFlow::Break(last) => return Ok(last),
+            }
+        }
+        Ok(p.desk)
     }
-}
 
-// Marks why a judge has stopped: the record differs, or is refused.
-fn mark_stopped<O: Write + Drop, E: Write + Drop>(console: &mut Console<O, E>, kind: u8) {
-    if kind == DIFFERS {
-        console::differ(console);
-        return;
+    // One turn: answers what was read, and writes what was said; then, where the program has not stopped and no whole piece is left, reads more.
+    #[tactic(auto, using(crate::proofs::Verdicts::worst_fine))]
+    fn turn<O: Write + Drop, E: Write + Drop, F: Read>(
+        &mut self,
+        console: &mut Console<O, E>,
+        task: Task,
+        file: &mut F,
+        p: Progress,
+    ) -> Result<ControlFlow<Desk, Progress>, Ended>
+        ensures { MarksTurn task console.old result console.new }
+    {
+        let fed = feeding::feed(task, p, self.input, self.store, self.frames, self.text);
+        mark(console, task, fed.desk);
+        console.write(lines::front(self.text, fed.lines.at))?;
+        if desk::is_halted(fed.desk) {
+            return Ok(ControlFlow::Break(fed.desk));
+        }
+        if fed.lines.open {
+            return self.more(console, task, file, fed);
+        }
+        Ok(ControlFlow::Continue(fed))
     }
-    if kind != GOES_ON {
-        console::tell(console, b"");
+
+    // Reads behind what is left, and at the end of the input answers that.
+    #[tactic(auto, using(crate::proofs::Verdicts::worst_fine))]
+    fn more<O: Write + Drop, E: Write + Drop, F: Read>(
+        &mut self,
+        console: &mut Console<O, E>,
+        task: Task,
+        file: &mut F,
+        p: Progress,
+    ) -> Result<ControlFlow<Desk, Progress>, Ended>
+        requires { verdict_of task p.desk ≡ Fine }
+        ensures { MarksTurn task console.old result console.new }
+    {
+        let Some(have) = console.read(file, self.input, p.lines.have)? else {
+            return Ok(ControlFlow::Break(self.end(console, task, p)?));
+        };
+        let mut next = p;
+        next.lines.have = have;
+        Ok(ControlFlow::Continue(next))
+    }
+
+    // Answers what is left at the end of the input.
+    fn end<O: Write + Drop, E: Write + Drop>(
+        &mut self,
+        console: &mut Console<O, E>,
+        task: Task,
+        p: Progress,
+    ) -> Result<Desk, Ended>
+        ensures { MarksLast task console.old result console.new }
+    {
+        let input = &mut *self.input;
+        let last = feeding::finish(task, p, input, self.store, self.frames, self.text);
+        mark(console, task, last.desk);
+        console.write(lines::front(self.text, last.at))?;
+        Ok(last.desk)
     }
 }
 
 // Marks a judge's verdict for whoever started the program. It is marked before it is written, so that it stands even where nobody reads it.
-pub fn mark<O: Write + Drop, E: Write + Drop>(console: &mut Console<O, E>, task: Task, desk: Desk) {
-    let halt = desk.halt;
+pub fn mark<O: Write + Drop, E: Write + Drop>(console: &mut Console<O, E>, task: Task, desk: Desk)
+    ensures { console.new ≡ worst console.old (verdict_of task desk) }
+{
+    console.mark(verdict(task, desk));
+}
+
+// What a program marks by why it has stopped: a judge's record differs, or is refused.
+fn verdict(task: Task, desk: Desk) -> Mark
+    ensures { result ≡ verdict_of task desk }
+{
     if let Task::Judge = task {
-        mark_stopped(console, halt.kind);
+        return match desk.halt {
+            None => Mark::Fine,
+            Some(Halt::Differs) => Mark::Differs,
+            Some(_) => Mark::Failed,
+        };
     }
-}
-
-// Answers what is left at the end of the input.
-fn end<O: Write + Drop, E: Write + Drop>(
-    console: &mut Console<O, E>,
-    task: Task,
-    p: Progress,
-    input: &[u8],
-    store: &mut [u8],
-    frames: &mut [u8],
-    text: &mut [u8],
-) -> Next {
-    let last = feeding::finish(task, p, input, store, frames, text);
-    mark(console, task, last.desk);
-    let written = console::write(console, lines::front(text, last.at));
-    let lines = p.lines;
-    let desk = last.desk;
-    ends(!written, Progress { lines, desk })
-}
-
-// Reads behind what is left: more of the input, its end, or a failure, after which nothing is answered any more.
-fn more<O: Write + Drop, E: Write + Drop, F: Read>(
-    console: &mut Console<O, E>,
-    task: Task,
-    file: &mut F,
-    p: Progress,
-    input: &mut [u8],
-    store: &mut [u8],
-    frames: &mut [u8],
-    text: &mut [u8],
-) -> Next {
-    let mut l = p.lines;
-    match console::read(console, file, input, l.have) {
-        Got::More(have) => {
-            l.have = have;
-            let desk = p.desk;
-            goes_on(Progress { lines: l, desk })
-        }
-        Got::End => end(console, task, p, input, store, frames, text),
-        Got::Failed => ends(true, p),
-    }
-}
-
-// Writes what was said; then, where the program has not stopped and no whole piece is left, reads more.
-fn settle<O: Write + Drop, E: Write + Drop, F: Read>(
-    console: &mut Console<O, E>,
-    task: Task,
-    file: &mut F,
-    fed: Progress,
-    input: &mut [u8],
-    store: &mut [u8],
-    frames: &mut [u8],
-    text: &mut [u8],
-) -> Next {
-    let l = fed.lines;
-    mark(console, task, fed.desk);
-    if !console::write(console, lines::front(text, l.at)) {
-        return ends(true, fed);
-    }
-    if desk::is_halted(fed.desk) {
-        return ends(false, fed);
-    }
-    if !l.open {
-        return goes_on(fed);
-    }
-    more(console, task, file, fed, input, store, frames, text)
-}
-
-// One turn: answers what was read, and goes on from there.
-fn turn<O: Write + Drop, E: Write + Drop, F: Read>(
-    console: &mut Console<O, E>,
-    task: Task,
-    file: &mut F,
-    p: Progress,
-    input: &mut [u8],
-    store: &mut [u8],
-    frames: &mut [u8],
-    text: &mut [u8],
-) -> Next {
-    let fed = feeding::feed(task, p, input, store, frames, text);
-    settle(console, task, file, fed, input, store, frames, text)
-}
-
-// Runs a program over a file, from a desk and a store on, in the buffers that it is lent. A proved loop has to end, and nothing says that the input does. So the loop counts its turns down, from a number that no run uses up.
-pub fn run<O: Write + Drop, E: Write + Drop, F: Read>(
-    console: &mut Console<O, E>,
-    task: Task,
-    file: &mut F,
-    desk: Desk,
-    input: &mut [u8],
-    store: &mut [u8],
-    frames: &mut [u8],
-    text: &mut [u8],
-) -> Ran {
-    let mut turns = u64::MAX;
-    let mut t = goes_on(feeding::start(desk));
-    while turns > 0 && t.on {
-        let p = t.p;
-        t = turn(console, task, file, p, input, store, frames, text);
-        turns -= 1;
-    }
-    let last = t.p;
-    let behind = last.desk;
-    Ran {
-        failed: t.failed,
-        desk: behind,
-    }
+    Mark::Fine
 }

@@ -9,14 +9,14 @@ ghost use Rattle.saying.specs.Text.{spaced, line_of, SaysBy};
 use lines::NEWLINE;
 
 // What stands between the groups of a line.
-const SPACE: u8 = 32;
+const SPACE: u8 = b' ';
 
 // The place behind so many characters more, in a buffer of that room.
 fn behind(room: usize, at: usize, count: usize) -> usize
     requires { room + 1 < 2 ^ 64 }
     ensures { result ≡ min (at + count) (room + 1) }
 {
-    octets::numbers::least_sum(at, count, room + 1)
+    at.saturating_add(count).min(room + 1)
 }
 
 // The place where nothing is added; the one past the buffer's end stands for any past it.

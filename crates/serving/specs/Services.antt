@@ -1,5 +1,5 @@
 -- Document 01, "Refusal numbers in checking order": the rows of each service, what it is to do, and what is decided by them.
-use Rattle.std.specs.Prelude.{◌≡◌, Bool, true, false, List, [], ◌∷◌, ℕ, length, eqb}
+use Rattle.std.specs.Prelude.{◌≡◌, Bool, true, false, List, [], ◌∷◌, ℕ, length, eqb, Some, None, Option}
 use Rattle.octets.specs.declared.copy.Span.{Span}
 use Rattle.checks.specs.declared.Check.TheVariants.{Form, Memory, Right, Outside}
 use Rattle.checks.specs.declared.Refusal.{Refusal}
@@ -7,36 +7,33 @@ use Rattle.checks.specs.Table.{Row}
 use Rattle.checks.specs.Verdict.{row}
 use Rattle.map.specs.declared.Area.{Area}
 use Rattle.map.specs.declared.Profile.{Profile}
-use Rattle.map.specs.declared.Found.{Found}
-use Rattle.map.specs.declared.Found.TheVariants.{At, Nothing}
 use Rattle.blocks.specs.Blocks.{memory_id, blocks_of}
 use Rattle.blocks.specs.Form.{head_right, form_of, is_right, form_detail}
 use Rattle.requests.specs.declared.Action.{Action}
 use Rattle.serving.specs.declared.Task.{Task}
 use Rattle.serving.specs.declared.Task.TheVariants.{Idle, Memory as OnArea, Connection as Connect}
-use Rattle.serving.specs.declared.Decision.{Decision}
 use Rattle.requests.specs.Request.{right_for, carried_by, most_words, area_named, is_found, outside_of}
-use Rattle.serving.specs.Decision.{accepted_with, decided_by}
+use Rattle.serving.specs.Decision.{work, Decision, decided_by}
 
 -- ---- the rows of each service, and what it is to do
 
 -- The area has the right that an action needs; no area has none.
-abbrev pub has_right : Found → Action → Bool
-has_right (At a) action = right_for a.rights action
-has_right Nothing action = false
+abbrev pub has_right : Option Area → Action → Bool
+has_right (Some a) action = right_for a.rights action
+has_right None action = false
 
 -- The number of the first block outside the area named; without an area there is none to number.
-abbrev pub outside_number : Found → Action → List ℕ → ℕ
-outside_number (At a) action d = outside_of a (blocks_of (carried_by action) d)
-outside_number Nothing action d = 0
+abbrev pub outside_number : Option Area → Action → List ℕ → ℕ
+outside_number (Some a) action d = outside_of a (blocks_of (carried_by action) d)
+outside_number None action d = 0
 
 -- Every block is wholly inside the area named; without an area none is.
-abbrev pub all_inside : Found → Action → List ℕ → Bool
-all_inside (At a) action d = eqb (outside_of a (blocks_of (carried_by action) d)) 0
-all_inside Nothing action d = false
+abbrev pub all_inside : Option Area → Action → List ℕ → Bool
+all_inside (Some a) action d = eqb (outside_of a (blocks_of (carried_by action) d)) 0
+all_inside None action d = false
 
 -- 18 and 19, of the area found.
-unfoldable pub area_rows : Found → Action → List ℕ → List (Row Refusal)
+unfoldable pub area_rows : Option Area → Action → List ℕ → List (Row Refusal)
 area_rows found action d =
     row Right (memory_id d) (has_right found action)
     ∷ row Outside (outside_number found action d) (all_inside found action d)
@@ -51,9 +48,9 @@ memory_rows p action d =
     ∷ area_rows (area_named p d) action d
 
 -- What it is to do on the area found.
-abbrev pub memory_task : Found → Action → Task
-memory_task (At a) action = OnArea (record { action = action; area = a })
-memory_task Nothing action = Idle
+abbrev pub memory_task : Option Area → Action → Task
+memory_task (Some a) action = OnArea (record { action = action; area = a })
+memory_task None action = Idle
 
 -- Service 17: 5 where there is application data.
 unfoldable pub connection_rows : List ℕ → List (Row Refusal)
@@ -62,13 +59,13 @@ connection_rows d = row Form 0 (eqb (length d) 0) ∷ []
 -- ---- what is decided, from data that was read
 
 abbrev pub area_decision : Area → Action → ℕ → Span → List ℕ → Decision
-area_decision a action ack «data» d = decided_by (accepted_with (memory_task (At a) action) ack «data») (area_rows (At a) action d)
+area_decision a action ack «data» d = decided_by (work (memory_task (Some a) action) ack «data») (area_rows (Some a) action d)
 
 abbrev pub memory_decision : Profile → Action → ℕ → Span → List ℕ → Decision
-memory_decision p action ack «data» d = decided_by (accepted_with (memory_task (area_named p d) action) ack «data») (memory_rows p action d)
+memory_decision p action ack «data» d = decided_by (work (memory_task (area_named p d) action) ack «data») (memory_rows p action d)
 
 abbrev pub connection_decision : ℕ → Span → List ℕ → Decision
-connection_decision ack «data» d = decided_by (accepted_with Connect ack «data») (connection_rows d)
+connection_decision ack «data» d = decided_by (work Connect ack «data») (connection_rows d)
 
 -- ---- what those who act on a decision lean on
 

@@ -2,13 +2,10 @@
 #![tactic(auto)]
 
 ghost use Rattle.std.specs.Prelude.{◌≡◌};
-ghost use Rattle.checks.specs.Verdict.{refusal};
 ghost use Rattle.serving.specs.Services.{connection_decision, memory_decision, area_decision};
-ghost use Rattle.serving.specs.Decision.{refused_by, accepted_with};
 
-use blocks::Form;
-use checks::{Check, Verdict};
-use map::{Area, Found, Profile};
+use checks::{Check, Refusal, refuse};
+use map::{Area, Profile};
 use octets::copy::Span;
 use requests::Action;
 
@@ -35,55 +32,26 @@ pub struct Work {
     pub data: Span,
 }
 
-// What is decided on a packet: the verdict, and the work of one that is accepted.
-#[derive(Clone, Copy)]
-pub struct Decision {
-    pub verdict: Verdict,
-    pub work: Work,
-}
-
-// The decision that a check failed.
-pub fn refuse(check: Check, detail: u16) -> Decision
-    ensures { result ≡ refused_by (Verdict.Refused (refusal check detail)) }
-{
-    refused(checks::refuse(check, detail))
-}
-
-// A refusal has no work.
-pub fn refused(verdict: Verdict) -> Decision
-    ensures { result ≡ refused_by verdict }
-{
-    Decision {
-        verdict,
-        work: Work {
-            task: Task::Idle,
-            ack: 0,
-            data: Span { from: 0, to: 0 },
-        },
-    }
-}
-
-// The acceptance of a packet that has this to do.
-pub fn accepted(task: Task, ack: u8, data: Span) -> Decision
-    ensures { result ≡ accepted_with task ack «data» }
-{
-    Decision {
-        verdict: Verdict::Accepted,
-        work: Work { task, ack, data },
-    }
-}
+// What is decided on a packet: the work of one that is accepted, or the refusal of the first check that fails.
+pub type Decision = Result<Work, Refusal>;
 
 // Service 17: check 5, there is no application data.
+#[tactic(auto, unfolding(crate::specs::Services::connection_rows, checks::specs::Table::answer))]
 pub fn judge_connection(ack: u8, data: Span, application: &[u8]) -> Decision
     ensures { result ≡ connection_decision ack «data» application.now }
 {
     if application.len() != 0 {
         return refuse(Check::Form, 0);
     }
-    accepted(Task::Connection, ack, data)
+    Ok(Work {
+        task: Task::Connection,
+        ack,
+        data,
+    })
 }
 
 // Service 6: check 5 for the head and for the blocks, then 17, 18 and 19.
+#[tactic(auto, unfolding(crate::specs::Services::memory_rows, checks::specs::Table::answer))]
 pub fn judge_memory(
     profile: Profile,
     action: Action,
@@ -101,18 +69,18 @@ pub fn judge_memory(
         requests::most_words(action),
         application,
     );
-    if let Form::Wrong(k) = form {
+    if let Err(k) = form {
         return refuse(Check::Form, k);
     }
     let id = blocks::reading::memory_id(application);
-    let found = map::place::find(profile, id);
-    let Found::At(area) = found else {
+    let Some(area) = map::place::find(profile, id) else {
         return refuse(Check::Memory, id as u16);
     };
     judge_area(area, action, ack, data, application)
 }
 
 // Checks 18 and 19 on the area that was found.
+#[tactic(auto, using(laws::proofs::First::wrong_is, laws::proofs::First::wrong_none), unfolding(crate::specs::Services::area_rows, checks::specs::Table::answer))]
 fn judge_area(area: Area, action: Action, ack: u8, data: Span, application: &[u8]) -> Decision
     ensures { result ≡ area_decision area action ack «data» application.now }
 {
@@ -121,8 +89,12 @@ fn judge_area(area: Area, action: Action, ack: u8, data: Span, application: &[u8
         return refuse(Check::Right, id as u16);
     }
     let outside = requests::first_outside(area, requests::carried_by(action), application);
-    if outside != 0 {
-        return refuse(Check::Outside, outside);
+    if let Some(k) = outside {
+        return refuse(Check::Outside, k);
     }
-    accepted(Task::Memory(Job { action, area }), ack, data)
+    Ok(Work {
+        task: Task::Memory(Job { action, area }),
+        ack,
+        data,
+    })
 }

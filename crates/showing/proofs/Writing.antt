@@ -7,7 +7,7 @@ use native.Mathlib.Nat.{le_of_suc-le-suc, not-suc-le-zero}
 use native.Mathlib.Omega.{arith}
 use lib.ListN.{length, take, replicate, length-append, length-replicate}
 use lib.Seq.{take_at}
-use Rattle.writer.specs.declared.Written.{Written}
+use Rattle.writer.specs.Writer.{Written}
 use Rattle.writer.specs.Writer.{Writes, written_of, buffer_after}
 use Rattle.saying.specs.Text.{space, line_of, Says}
 use Rattle.printing.specs.Answer.{written_text}

@@ -10,6 +10,7 @@ use commands::form::{FLAG_AT, ORDER_OCTETS, START_OCTETS};
 use commands::session;
 use commands::session::Session;
 use printing::answer;
+use tc::Method;
 use terminal::Outcome;
 use writer::{Order, Written};
 
@@ -38,12 +39,10 @@ pub fn answer(
     ensures { ServedBy (answering (bench_of s store out) packet.now) at store out text result }
 {
     let outcome = answered(s, packet, store, out);
-    let written = outcome.written;
     let state = outcome.state;
-    let v = outcome.verdict;
-    let frames = saying::line(text, at, lines::front(out, written));
-    let verdict = answer::put_verdict(text, frames, v);
-    let last = answer::put_counts(text, verdict, written, state.counts);
+    let frames = saying::line(text, at, lines::front(out, outcome.written));
+    let verdict = answer::put_verdict(text, frames, outcome.verdict);
+    let last = answer::put_counts(text, verdict, outcome.written, state.counts);
     let session = session::with_state(s, state);
     Served { session, at: last }
 }
@@ -52,13 +51,12 @@ pub fn answer(
 fn answered(s: Session, packet: &[u8], store: &mut [u8], out: &mut [u8]) -> Outcome
     ensures { AnsweredAt (input_at (bench_of s store out) packet.now) store out result }
 {
-    let stored = octets::numbers::least(s.stored, store.len());
-    let room = octets::numbers::least(s.room, out.len());
-    let time = s.time;
+    let stored = s.stored.min(store.len());
+    let room = s.room.min(out.len());
     terminal::answer(
         s.profile,
         s.state,
-        time,
+        s.time,
         packet,
         &mut store[..stored],
         &mut out[..room],
@@ -70,11 +68,9 @@ pub fn read(packet: &[u8], text: &mut [u8], at: usize) -> usize
     ensures { SaysBy (read_text packet.now) at text result }
 {
     let reading = reader::read(packet);
-    let v = reading.verdict;
-    let verdict = answer::put_verdict(text, at, v);
+    let verdict = answer::put_verdict(text, at, reading.verdict);
     let fields = answer::put_fields(text, verdict, reading.fields);
-    let data = reading.data;
-    saying::last(text, fields, octets::copy::placed(packet, data))
+    saying::last(text, fields, octets::copy::placed(packet, reading.data))
 }
 
 // W: the writer writes a packet into a buffer of the length asked for, each octet EE before.
@@ -82,7 +78,7 @@ pub fn write(given: &[u8], text: &mut [u8], at: usize) -> usize
     ensures { SaysBy (write_text given.now) at text result }
 {
     let mut packet = [0xEEu8; PACKET_ROOM];
-    let room = octets::numbers::word16_at(given, ROOM_AT) as usize;
+    let room = usize::from(octets::numbers::word16_at(given, ROOM_AT));
     let written = written_into(given, &mut packet[..room]);
     let code = answer::put_written(text, at, written);
     saying::last(text, code, &packet[..room])
@@ -107,7 +103,7 @@ fn order_in(given: &[u8]) -> Order
         pid: octets::numbers::one(given, 0),
         count: octets::numbers::word16_at(given, 1),
         ack: octets::numbers::one(given, 3),
-        method: tc::method_of(octets::numbers::octet_at(given, FLAG_AT)),
+        method: Method::from(octets::numbers::octet_at(given, FLAG_AT)),
         kind: octets::numbers::one(given, 5),
         subtype: octets::numbers::one(given, 6),
     }
@@ -133,8 +129,7 @@ pub fn control_from(given: &[u8], text: &mut [u8], at: usize) -> usize
 fn put_value(start: u16, octets: &[u8], text: &mut [u8], at: usize) -> usize
     ensures { SaysBy (value_text start octets.now) at text result }
 {
-    let two = octets::numbers::octets_of16(crc::crc(start, octets));
-    saying::line(text, at, &two)
+    saying::line(text, at, &crc::crc(start, octets).to_be_bytes())
 }
 
 // V: whether a profile is wider than the one that stands, over the store that stands.
@@ -142,5 +137,5 @@ pub fn wider(s: Session, given: &[u8], text: &mut [u8], at: usize) -> usize
     ensures { SaysBy (wider_text s given.now) at text result }
 {
     let is = wider::is_wider(session::profile_in(given), s.profile, s.stored);
-    saying::line(text, at, &[if is { 1 } else { 0 }])
+    saying::line(text, at, &[u8::from(is)])
 }

@@ -1,3 +1,3 @@
-pub mod Behind
 pub mod Steps
+pub mod Bound
 pub mod Octets

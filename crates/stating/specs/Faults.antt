@@ -1,92 +1,40 @@
 -- docs/UNITS.md, "A bad unit file": the rows of its table by number.
 use Rattle.std.specs.Prelude.{ℕ}
+use Rattle.numerals.specs.declared.NumeralError.{NumeralError}
+use Rattle.numerals.specs.declared.NumeralError.TheVariants.{Large, Bad}
+use Rattle.stating.specs.declared.fault.Fault.{Fault}
+use Rattle.stating.specs.declared.fault.Fault.TheVariants.{LineLong, NoItem, PidTwice, PidForm, PidLarge, ServicesTwice, ServicesForm, ServiceTwice, StoreTwice, StoreForm, StoreLarge, PutEarly, PutForm, PutDigits, PutOdd, PutPast, AreaNinth, AreaForm, AreaId, AreaOdd, AreaSize, RightTwice, NumberForm, NumberLarge, NoPid, NoStore}
 
--- Nothing is wrong.
-abbrev pub fine : ℕ
-fine = 0
+-- The row of the table that has the words of a fault, from 1.
+abbrev pub fault_number : Fault → ℕ
+fault_number LineLong = 1
+fault_number NoItem = 2
+fault_number PidTwice = 3
+fault_number PidForm = 4
+fault_number PidLarge = 5
+fault_number ServicesTwice = 6
+fault_number ServicesForm = 7
+fault_number ServiceTwice = 8
+fault_number StoreTwice = 9
+fault_number StoreForm = 10
+fault_number StoreLarge = 11
+fault_number PutEarly = 12
+fault_number PutForm = 13
+fault_number PutDigits = 14
+fault_number PutOdd = 15
+fault_number PutPast = 16
+fault_number AreaNinth = 17
+fault_number AreaForm = 18
+fault_number AreaId = 19
+fault_number AreaOdd = 20
+fault_number AreaSize = 21
+fault_number RightTwice = 22
+fault_number NumberForm = 23
+fault_number NumberLarge = 24
+fault_number NoPid = 25
+fault_number NoStore = 26
 
--- The line, and its first word.
-abbrev pub line_long : ℕ
-line_long = 1
-
-abbrev pub no_item : ℕ
-no_item = 2
-
--- `pid`.
-abbrev pub pid_twice : ℕ
-pid_twice = 3
-
-abbrev pub pid_form : ℕ
-pid_form = 4
-
-abbrev pub pid_large : ℕ
-pid_large = 5
-
--- `services`.
-abbrev pub services_twice : ℕ
-services_twice = 6
-
-abbrev pub services_form : ℕ
-services_form = 7
-
-abbrev pub service_twice : ℕ
-service_twice = 8
-
--- `store`.
-abbrev pub store_twice : ℕ
-store_twice = 9
-
-abbrev pub store_form : ℕ
-store_form = 10
-
-abbrev pub store_large : ℕ
-store_large = 11
-
--- `put`.
-abbrev pub put_early : ℕ
-put_early = 12
-
-abbrev pub put_form : ℕ
-put_form = 13
-
-abbrev pub put_digits : ℕ
-put_digits = 14
-
-abbrev pub put_odd : ℕ
-put_odd = 15
-
-abbrev pub put_past : ℕ
-put_past = 16
-
--- `area`.
-abbrev pub area_ninth : ℕ
-area_ninth = 17
-
-abbrev pub area_form : ℕ
-area_form = 18
-
-abbrev pub area_id : ℕ
-area_id = 19
-
-abbrev pub area_odd : ℕ
-area_odd = 20
-
-abbrev pub area_size : ℕ
-area_size = 21
-
-abbrev pub right_twice : ℕ
-right_twice = 22
-
--- A number.
-abbrev pub number_form : ℕ
-number_form = 23
-
-abbrev pub number_large : ℕ
-number_large = 24
-
--- The end.
-abbrev pub no_pid : ℕ
-no_pid = 25
-
-abbrev pub no_store : ℕ
-no_store = 26
+-- What is wrong with a line, a word of which states no number that has room.
+abbrev pub numeral_fault : NumeralError → Fault
+numeral_fault Large = NumberLarge
+numeral_fault Bad = NumberForm

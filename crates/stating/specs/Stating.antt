@@ -1,104 +1,85 @@
 -- docs/UNITS.md, "Items": what the words behind an item state: a number, services or rights, octets.
-use Rattle.std.specs.Prelude.{Bool, false, cond, ◌&&◌, ◌||◌, List, [], ◌∷◌, map, ℕ, ◌+◌, ◌/◌, ◌%◌, length, drop, eqb, leb}
+use Rattle.std.specs.Prelude.{Bool, true, false, cond, Option, Some, None, Result, Ok, Err, List, [], ◌∷◌, map, ℕ, ◌+◌, ◌/◌, ◌%◌, length, drop, eqb, leb}
 use Rattle.laws.specs.Fold.{joined}
 use Rattle.characters.specs.Digits.{all_digits_of, octets_in}
 use Rattle.map.specs.declared.Flags.{Flags}
 use Rattle.words.specs.Ascii.{ascii}
-use Rattle.words.specs.Words.{words_of, span_of, same_text}
-use Rattle.numerals.specs.declared.Numeral.{Numeral}
-use Rattle.numerals.specs.declared.Numeral.TheVariants.{Is, Large, Bad}
+use Rattle.words.specs.Words.{words_of, same_text}
+use Rattle.numerals.specs.declared.NumeralError.{NumeralError}
 use Rattle.numerals.specs.Numbers.{numeral_of}
-use Rattle.stating.specs.declared.Valued.{Valued}
-use Rattle.stating.specs.declared.Named.{Named}
-use Rattle.stating.specs.declared.Counted.{Counted}
-use Rattle.stating.specs.Faults.{fine, put_digits, put_odd, number_form, number_large}
+use Rattle.stating.specs.declared.Words.{Words}
+use Rattle.stating.specs.declared.Flag.{Flag}
+use Rattle.stating.specs.declared.Flag.TheVariants.{Load, Dump, Check, Connection}
+use Rattle.stating.specs.declared.fault.Fault.{Fault}
+use Rattle.stating.specs.declared.fault.Fault.TheVariants.{PutDigits, PutOdd}
+use Rattle.stating.specs.Faults.{numeral_fault}
 
--- The first of some words, which is empty where there is none, and the others.
-abbrev pub head_of : List (List ℕ) → List ℕ
-head_of [] = []
-head_of (w ∷ ws) = w
+-- What follows from what is stated; where something is wrong, that.
+abbrev pub and_then : {A B : Type 0} → Result A Fault → (A → Result B Fault) → Result B Fault
+and_then (Ok x) next = next x
+and_then (Err fault) next = Err fault
 
-abbrev pub tail_of : List (List ℕ) → List (List ℕ)
-tail_of [] = []
-tail_of (w ∷ ws) = ws
+-- The words of a line that are left; and whether there are words.
+abbrev pub words_left : Words → List (List ℕ)
+words_left w = words_of (drop w.at w.line.now)
 
--- The words of a line from a place on, and the place behind the first of them.
-abbrev pub words_behind : List ℕ → ℕ → List (List ℕ)
-words_behind line at = words_of (drop at line)
+abbrev pub is_some : List (List ℕ) → Bool
+is_some [] = false
+is_some (w ∷ ws) = true
 
-abbrev pub behind_word : List ℕ → ℕ → ℕ
-behind_word line at = (span_of line at).to
+-- A number that is at most so large; where there is none, what is wrong.
+abbrev pub bounded : ℕ → Fault → Result ℕ NumeralError → Result ℕ Fault
+bounded most large (Ok x) = cond (leb x most) (Ok x) (Err large)
+bounded most large (Err e) = Err (numeral_fault e)
 
--- What is wrong with a number that is at most so large, and its value.
-abbrev pub numeral_fault : ℕ → ℕ → Numeral → ℕ
-numeral_fault most large (Is x) = cond (leb x most) fine large
-numeral_fault most large Large = number_large
-numeral_fault most large Bad = number_form
+-- The number that the first of some words states: it may be missing.
+unfoldable pub number_stated : ℕ → Fault → Fault → List (List ℕ) → Result ℕ Fault
+number_stated most missing large [] = Err missing
+number_stated most missing large (w ∷ ws) = bounded most large (numeral_of w)
 
-abbrev pub numeral_value : Numeral → ℕ
-numeral_value (Is x) = x
-numeral_value Large = 0
-numeral_value Bad = 0
-
--- What is wrong with the number that the first of some words states: it may be missing.
-unfoldable pub number_fault : ℕ → ℕ → ℕ → List (List ℕ) → ℕ
-number_fault most missing large [] = missing
-number_fault most missing large (w ∷ ws) = numeral_fault most large (numeral_of w)
-
--- Its value.
-unfoldable pub number_value : List (List ℕ) → ℕ
-number_value [] = 0
-number_value (w ∷ ws) = numeral_value (numeral_of w)
-
--- The number at a place of a line.
-abbrev pub number_at : List ℕ → ℕ → ℕ → ℕ → ℕ → Valued
-number_at line at most missing large = record {
-  value = number_value (words_behind line at);
-  fault = number_fault most missing large (words_behind line at);
-  behind = behind_word line at;
-}
-
--- Which flag a word names: load 1, dump 2, check 3, connection 4; any other 0.
-unfoldable pub flag_named : List ℕ → ℕ
+-- Which flag a word names.
+unfoldable pub flag_named : List ℕ → Option Flag
 flag_named w =
-    cond (same_text w (ascii "load")) 1
-    (cond (same_text w (ascii "dump")) 2
-    (cond (same_text w (ascii "check")) 3
-    (cond (same_text w (ascii "connection")) 4 0)))
+    cond (same_text w (ascii "load")) (Some Load)
+    (cond (same_text w (ascii "dump")) (Some Dump)
+    (cond (same_text w (ascii "check")) (Some Check)
+    (cond (same_text w (ascii "connection")) (Some Connection) None)))
 
 -- Whether a flag is set, and the flags with it set.
-abbrev pub has_flag : Flags → ℕ → Bool
-has_flag f k =
-    (eqb k 1 && f.load) || (eqb k 2 && f.dump) || (eqb k 3 && f.check) || (eqb k 4 && f.connection)
+abbrev pub has_flag : Flags → Flag → Bool
+has_flag f Load = f.load
+has_flag f Dump = f.dump
+has_flag f Check = f.check
+has_flag f Connection = f.connection
 
-abbrev pub with_flag : Flags → ℕ → Flags
-with_flag f k = record {
-  load = eqb k 1 || f.load;
-  dump = eqb k 2 || f.dump;
-  check = eqb k 3 || f.check;
-  connection = eqb k 4 || f.connection;
-}
+abbrev pub with_flag : Flags → Flag → Flags
+with_flag f Load = record f { load = true }
+with_flag f Dump = record f { dump = true }
+with_flag f Check = record f { check = true }
+with_flag f Connection = record f { connection = true }
 
 -- No flag is set.
 abbrev pub no_flags : Flags
 no_flags = record { load = false; dump = false; check = false; connection = false }
 
--- The flags that words name behind some that are set: the first so many there are, each at most once, in any order.
-unfoldable pub flags_from : ℕ → ℕ → ℕ → Flags → List (List ℕ) → Named
-flags_from known unknown twice f [] = record { flags = f; fault = fine }
+-- The flags with one more: one of those that are known, which is not set yet.
+abbrev pub flag_added : Flags → Fault → Fault → Flags → Option Flag → Result Flags Fault
+flag_added known unknown twice f None = Err unknown
+flag_added known unknown twice f (Some k) = cond (has_flag known k) (cond (has_flag f k) (Err twice) (Ok (with_flag f k))) (Err unknown)
+
+-- The flags that words name behind some that are set: of those that are known, each at most once, in any order.
+unfoldable pub flags_from : Flags → Fault → Fault → Flags → List (List ℕ) → Result Flags Fault
+flags_from known unknown twice f [] = Ok f
 flags_from known unknown twice f (w ∷ ws) =
-    cond (leb 1 (flag_named w) && leb (flag_named w) known)
-    (cond (has_flag f (flag_named w)) (record { flags = f; fault = twice })
-    (flags_from known unknown twice (with_flag f (flag_named w)) ws))
-    (record { flags = f; fault = unknown })
+    and_then (flag_added known unknown twice f (flag_named w)) (λ g. flags_from known unknown twice g ws)
 
 -- How many octets the words state behind so many: two digits each.
-unfoldable pub digits_from : ℕ → List (List ℕ) → Counted
-digits_from n [] = record { count = n; fault = fine }
+unfoldable pub digits_from : ℕ → List (List ℕ) → Result ℕ Fault
+digits_from n [] = Ok n
 digits_from n (w ∷ ws) =
     cond (all_digits_of w)
-    (cond (eqb (length w % 2) 0) (digits_from (n + length w / 2) ws) (record { count = n; fault = put_odd }))
-    (record { count = n; fault = put_digits })
+    (cond (eqb (length w % 2) 0) (digits_from (n + length w / 2) ws) (Err PutOdd))
+    (Err PutDigits)
 
 -- Those octets.
 abbrev pub octets_stated : List (List ℕ) → List ℕ

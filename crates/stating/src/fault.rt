@@ -1,64 +1,48 @@
-// What is wrong with a line of a unit file, by number: docs/UNITS.md has the words.
+// What is wrong with a line of a unit file: docs/UNITS.md has the words of each.
 
-// Nothing is wrong.
-pub const FINE: u8 = 0;
+ghost use Rattle.std.specs.Prelude.{◌≡◌};
+ghost use Rattle.stating.specs.Faults.{numeral_fault};
 
-// The line, and its first word.
-pub const LINE_LONG: u8 = 1;
+use numerals::NumeralError;
 
-pub const NO_ITEM: u8 = 2;
+// What is wrong: with the line and its first word, with `pid`, `services`, `store`, `put` or `area`, with a number, or at the end of the file.
+#[derive(Clone, Copy, PartialEq, Eq)]
+pub enum Fault {
+    LineLong,
+    NoItem,
+    PidTwice,
+    PidForm,
+    PidLarge,
+    ServicesTwice,
+    ServicesForm,
+    ServiceTwice,
+    StoreTwice,
+    StoreForm,
+    StoreLarge,
+    PutEarly,
+    PutForm,
+    PutDigits,
+    PutOdd,
+    PutPast,
+    AreaNinth,
+    AreaForm,
+    AreaId,
+    AreaOdd,
+    AreaSize,
+    RightTwice,
+    NumberForm,
+    NumberLarge,
+    NoPid,
+    NoStore,
+}
 
-// `pid`.
-pub const PID_TWICE: u8 = 3;
+impl From<NumeralError> for Fault {
+    ghost from_gives = { λ e f. f ≡ numeral_fault e };
 
-pub const PID_FORM: u8 = 4;
-
-pub const PID_LARGE: u8 = 5;
-
-// `services`.
-pub const SERVICES_TWICE: u8 = 6;
-
-pub const SERVICES_FORM: u8 = 7;
-
-pub const SERVICE_TWICE: u8 = 8;
-
-// `store`.
-pub const STORE_TWICE: u8 = 9;
-
-pub const STORE_FORM: u8 = 10;
-
-pub const STORE_LARGE: u8 = 11;
-
-// `put`.
-pub const PUT_EARLY: u8 = 12;
-
-pub const PUT_FORM: u8 = 13;
-
-pub const PUT_DIGITS: u8 = 14;
-
-pub const PUT_ODD: u8 = 15;
-
-pub const PUT_PAST: u8 = 16;
-
-// `area`.
-pub const AREA_NINTH: u8 = 17;
-
-pub const AREA_FORM: u8 = 18;
-
-pub const AREA_ID: u8 = 19;
-
-pub const AREA_ODD: u8 = 20;
-
-pub const AREA_SIZE: u8 = 21;
-
-pub const RIGHT_TWICE: u8 = 22;
-
-// A number.
-pub const NUMBER_FORM: u8 = 23;
-
-pub const NUMBER_LARGE: u8 = 24;
-
-// The end.
-pub const NO_PID: u8 = 25;
-
-pub const NO_STORE: u8 = 26;
+    fn from(e: NumeralError) -> Fault {
+        match e {
+            NumeralError::Large => Fault::NumberLarge,
+            NumeralError::Bad => Fault::NumberForm,
+        }
+    }
+}

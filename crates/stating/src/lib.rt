@@ -1,227 +1,195 @@
 // What the words behind an item of a unit file state: a number, services or rights, octets.
 #![tactic(auto)]
 
-ghost use Rattle.std.specs.Prelude.{◌≡◌, ◌||◌, ◌+◌, min, eqb};
+ghost use Rattle.std.specs.Prelude.{◌≡◌, drop};
+ghost use Rattle.std.specs.Iterator.{YieldsFirstRef, item_count};
 ghost use Rattle.octets.specs.Copy.{laid};
-ghost use Rattle.stating.specs.Stating.{words_behind, numeral_fault, numeral_value, number_at, flag_named, has_flag, with_flag, no_flags, flags_from, digits_from, octets_stated};
+ghost use Rattle.words.specs.Words.{words_of};
+ghost use Rattle.stating.specs.Stating.{words_left, is_some, number_stated, flag_named, has_flag, with_flag, no_flags, flag_added, flags_from, digits_from, octets_stated};
 
-use fault::{FINE, NUMBER_FORM, NUMBER_LARGE, PUT_DIGITS, PUT_ODD};
+use fault::Fault;
 use map::Flags;
-use numerals::Numeral;
 
-pub mod fault; // fault.rt: what is wrong with a line, by number
+pub mod fault; // fault.rt: what is wrong with a line
 
-// A number, what is wrong with it, and the place behind its word.
+// The words of a line that are left, from left to right.
 #[derive(Clone, Copy)]
-pub struct Valued {
-    pub value: u32,
-    pub fault: u8,
-    pub behind: usize,
+pub struct Words<'a> {
+    line: &'a [u8],
+    at: usize,
 }
 
-// Flags that words name, and what is wrong with the first word that names none.
+// No flag is set.
+pub const NO_FLAGS: Flags = Flags {
+    load: false,
+    dump: false,
+    check: false,
+    connection: false,
+};
+
+// A service, or a right.
 #[derive(Clone, Copy)]
-pub struct Named {
-    pub flags: Flags,
-    pub fault: u8,
+enum Flag {
+    Load,
+    Dump,
+    Check,
+    Connection,
 }
 
-// How many octets words state, and what is wrong with the first word that states none.
-#[derive(Clone, Copy)]
-pub struct Counted {
-    pub count: usize,
-    pub fault: u8,
-}
+impl<'a> Iterator for Words<'a> {
+    type Item = &'a [u8];
 
-// What is wrong with a number that is at most so large.
-fn numeral_fault(n: Numeral, most: u32, large: u8) -> u8
-    ensures { result ≡ numeral_fault most large n }
-{
-    match n {
-        Numeral::Is(x) => { if x <= most { FINE } else { large } }
-        Numeral::Large => NUMBER_LARGE,
-        Numeral::Bad => NUMBER_FORM,
+    ghost next_gives = { YieldsFirstRef words_left };
+
+    ghost remaining = { item_count words_left };
+
+    #[tactic(auto, using(crate::proofs::Steps::next_none, crate::proofs::Steps::next_some, crate::proofs::Steps::next_fewer))]
+    fn next(&mut self) -> Option<&'a [u8]> {
+        let p = words::next(self.line, self.at);
+        if p.to <= p.from {
+            return None;
+        }
+        self.at = p.to;
+        Some(octets::copy::placed(self.line, p))
     }
 }
 
-// The value of a number; 0 of what is none.
-fn numeral_value(n: Numeral) -> u32
-    ensures { result ≡ numeral_value n }
-{
-    match n {
-        Numeral::Is(x) => x,
-        Numeral::Large => 0,
-        Numeral::Bad => 0,
+impl<'a> Words<'a> {
+    // All words of a line.
+    pub fn new(line: &'a [u8]) -> Words<'a>
+        ensures { words_left result ≡ words_of line.now }
+    {
+        Words { line, at: 0 }
+    }
+
+    // Whether a word is left.
+    pub fn more(self) -> bool
+        ensures { result ≡ is_some (words_left self.entry) }
+    {
+        let mut ahead = self;
+        ahead.next().is_some()
+    }
+
+    // The number that the next word states: it may be missing, or too large.
+    #[tactic(auto, unfolding(crate::specs::Stating::number_stated))]
+    pub fn number(&mut self, most: u32, missing: Fault, large: Fault) -> Result<u32, Fault>
+        ensures value { result ≡ number_stated most missing large (words_left self.old) }
+        ensures behind { words_left self.new ≡ drop 1 (words_left self.old) }
+    {
+        let word = self.next().ok_or(missing)?;
+        let value = numerals::number(word)?;
+        if most < value {
+            return Err(large);
+        }
+        Ok(value)
+    }
+
+    // The flags that the words name: of those that are known, each at most once, in any order.
+    #[tactic(auto, unfolding(crate::specs::Stating::flags_from))]
+    pub fn flags(self, known: Flags, unknown: Fault, twice: Fault) -> Result<Flags, Fault>
+        ensures { result ≡ flags_from known unknown twice no_flags (words_left self.entry) }
+    {
+        let mut f = NO_FLAGS;
+        for word in self {
+            f = flag_added(f, word, known, unknown, twice)?;
+        }
+        Ok(f)
+    }
+
+    // How many octets the words state, two digits each.
+    #[tactic(auto, using(crate::proofs::Steps::octets_fit, crate::proofs::Steps::count_next), unfolding(crate::specs::Stating::digits_from))]
+    pub fn digits(self) -> Result<usize, Fault>
+        ensures { result ≡ digits_from 0 (words_left self.entry) }
+    {
+        let mut count = 0;
+        for word in self {
+            if !characters::text::all_digits(word) {
+                return Err(Fault::PutDigits);
+            }
+            if word.len() % 2 != 0 {
+                return Err(Fault::PutOdd);
+            }
+            count += word.len() / 2;
+        }
+        Ok(count)
+    }
+
+    // Lays the octets that the words state into a store from a place on.
+    #[tactic(auto, using(crate::proofs::Steps::lay_end, crate::proofs::Steps::lay_next))]
+    pub fn lay(self, store: &mut [u8], to: usize)
+        ensures { store.new ≡ laid store.old to (octets_stated (words_left self.entry)) }
+    {
+        let mut put = to;
+        for word in self {
+            characters::text::decode(word, store, put);
+            put = put.saturating_add(word.len() / 2);
+        }
     }
 }
 
-// The number that the next word of a line states: it may be missing, or too large.
-pub fn number(line: &[u8], at: usize, most: u32, missing: u8, large: u8) -> Valued
-    ensures { result ≡ number_at line.now at most missing large }
-{
-    let p = words::next(line, at);
-    if p.to <= p.from {
-        return Valued {
-            value: 0,
-            fault: missing,
-            behind: p.to,
-        };
-    }
-    let n = numerals::number(octets::copy::placed(line, p));
-    Valued {
-        value: numeral_value(n),
-        fault: numeral_fault(n, most, large),
-        behind: p.to,
-    }
-}
-
-// Which flag a word names: load 1, dump 2, check 3, connection 4; any other 0.
-fn flag_named(word: &[u8]) -> u8
+// Which flag a word names. The texts are compared one by one: the proof of a `match` on them, character by character, does not close.
+#[tactic(auto, unfolding(crate::specs::Stating::flag_named))]
+fn flag_named(word: &[u8]) -> Option<Flag>
     ensures { result ≡ flag_named word.now }
 {
     if words::same(word, b"load") {
-        return 1;
+        return Some(Flag::Load);
     }
     if words::same(word, b"dump") {
-        return 2;
+        return Some(Flag::Dump);
     }
     if words::same(word, b"check") {
-        return 3;
+        return Some(Flag::Check);
     }
     if words::same(word, b"connection") {
-        return 4;
+        return Some(Flag::Connection);
     }
-    0
+    None
 }
 
 // Whether a flag is set.
-fn has_flag(f: Flags, k: u8) -> bool
-    ensures { result ≡ has_flag f k }
+fn has_flag(f: Flags, flag: Flag) -> bool
+    ensures { result ≡ has_flag f flag }
 {
-    match k {
-        1 => f.load,
-        2 => f.dump,
-        3 => f.check,
-        4 => f.connection,
-        _ => false,
+    match flag {
+        Flag::Load => f.load,
+        Flag::Dump => f.dump,
+        Flag::Check => f.check,
+        Flag::Connection => f.connection,
     }
-}
-
-// Whether a flag is set, once the flag of a number is.
-fn set_by(set: bool, flag: u8, k: u8) -> bool
-    ensures { result ≡ eqb k flag || set }
-{
-    if k == flag {
-        return true;
-    }
-    set
 }
 
 // The flags with one set.
-fn with_flag(f: Flags, k: u8) -> Flags
-    ensures { result ≡ with_flag f k }
+fn with_flag(f: Flags, flag: Flag) -> Flags
+    ensures { result ≡ with_flag f flag }
 {
-    Flags {
-        load: set_by(f.load, 1, k),
-        dump: set_by(f.dump, 2, k),
-        check: set_by(f.check, 3, k),
-        connection: set_by(f.connection, 4, k),
+    match flag {
+        Flag::Load => Flags { load: true, ..f },
+        Flag::Dump => Flags { dump: true, ..f },
+        Flag::Check => Flags { check: true, ..f },
+        Flag::Connection => Flags {
+            connection: true,
+            ..f
+        },
     }
 }
 
-// The flags that the words of a line name from a place on: the first so many there are, each at most once, in any order.
-pub fn flags(line: &[u8], at: usize, known: u8, unknown: u8, twice: u8) -> Named
-    ensures { result ≡ flags_from known unknown twice no_flags (words_behind line.now at) }
+// The flags with the one that a word names: one of those that are known, which is not set yet.
+fn flag_added(
+    f: Flags,
+    word: &[u8],
+    known: Flags,
+    unknown: Fault,
+    twice: Fault,
+) -> Result<Flags, Fault>
+    ensures { result ≡ flag_added known unknown twice f (flag_named word.now) }
 {
-    let mut f = Flags {
-        load: false,
-        dump: false,
-        check: false,
-        connection: false,
-    };
-    let mut place = at;
-    loop {
-        let p = words::next(line, place);
-        if p.to <= p.from {
-            return Named {
-                flags: f,
-                fault: FINE,
-            };
-        }
-        let k = flag_named(octets::copy::placed(line, p));
-        if k < 1 || known < k {
-            return Named {
-                flags: f,
-                fault: unknown,
-            };
-        }
-        if has_flag(f, k) {
-            return Named {
-                flags: f,
-                fault: twice,
-            };
-        }
-        f = with_flag(f, k);
-        place = p.to;
+    let flag = flag_named(word).ok_or(unknown)?;
+    if !has_flag(known, flag) {
+        return Err(unknown);
     }
-}
-
-// How many octets the words of a line state from a place on, two digits each.
-pub fn digits(line: &[u8], at: usize) -> Counted
-    ensures { result ≡ digits_from 0 (words_behind line.now at) }
-{
-    let mut count = 0;
-    let mut place = at;
-    loop {
-        let p = words::next(line, place);
-        if p.to <= p.from {
-            return Counted { count, fault: FINE };
-        }
-        let word = octets::copy::placed(line, p);
-        if !characters::text::all_digits(word) {
-            return Counted {
-                count,
-                fault: PUT_DIGITS,
-            };
-        }
-        if word.len() % 2 != 0 {
-            return Counted {
-                count,
-                fault: PUT_ODD,
-            };
-        }
-        count += word.len() / 2;
-        place = p.to;
+    if has_flag(f, flag) {
+        return Err(twice);
     }
-}
-
-// The place behind so many octets more, and no further than the end of what has that room.
-fn behind_octets(put: usize, count: usize, room: usize) -> usize
-    ensures { result ≡ min (put + count) room }
-{
-    if room <= put {
-        return room;
-    }
-    if room - put <= count {
-        return room;
-    }
-    put + count
-}
-
-// Lays the octets that the words of a line state from a place on into a store.
-pub fn lay(line: &[u8], at: usize, store: &mut [u8], to: usize)
-    ensures { store.new ≡ laid store.old to (octets_stated (words_behind line.now at)) }
-{
-    let mut place = at;
-    let mut put = to;
-    loop {
-        let p = words::next(line, place);
-        if p.to <= p.from {
-            return;
-        }
-        let word = octets::copy::placed(line, p);
-        characters::text::decode(word, store, put);
-        put = behind_octets(put, word.len() / 2, store.len());
-        place = p.to;
-    }
+    Ok(with_flag(f, flag))
 }

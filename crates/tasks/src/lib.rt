@@ -31,12 +31,10 @@ fn line_answer(
 ) -> Done
     ensures { DidBy (λ m. line_says m line.now) (λ m. line_becomes m line.now) d at store out text result }
 {
-    let draft = d.draft;
-    let w = hexline::answer(draft.profile, d.state, line, store, out, text, at);
-    let state = w.state;
+    let w = hexline::answer(d.draft.profile, d.state, line, store, out, text, at);
     Done {
         at: w.at,
-        desk: desk::with_state(d, state),
+        desk: desk::with_state(d, w.state),
     }
 }
 
@@ -44,11 +42,11 @@ fn line_answer(
 fn explain_answer(d: Desk, line: &[u8], text: &mut [u8], at: usize) -> usize
     ensures { SaysBy (explain_says d.draft.profile line.now) at text result }
 {
-    let draft = d.draft;
-    explainline::answer(draft.profile, line, text, at)
+    explainline::answer(d.draft.profile, line, text, at)
 }
 
 // What a program does with a line: what it says, added to a text from a place on, and what goes on.
+#[tactic(auto, using(octets::proofs::Laid::laid_none))]
 pub fn answer(
     task: Task,
     d: Desk,
@@ -77,6 +75,7 @@ pub fn answer(
 }
 
 // The same of a line that is too long.
+#[tactic(auto, using(octets::proofs::Laid::laid_none))]
 pub fn answer_long(task: Task, d: Desk, text: &mut [u8], at: usize) -> Done
     ensures says_by { SaysBy (task_long_says task d) at text result.at }
     ensures desk_value { result.desk ≡ task_long_desk task d }

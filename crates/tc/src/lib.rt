@@ -36,20 +36,24 @@ pub struct Fields {
 }
 
 // The checksum flag of a method.
-pub fn flag_of(method: Method) -> u16
-    ensures { result ≡ flag_of method }
-{
-    match method {
-        Method::Iso => 0,
-        Method::Crc => 1,
+impl From<Method> for u16 {
+    ghost from_gives = { λ method flag. flag ≡ flag_of method };
+
+    fn from(method: Method) -> u16 {
+        match method {
+            Method::Iso => 0,
+            Method::Crc => 1,
+        }
     }
 }
 
 // The method that a checksum flag selects.
-pub fn method_of(flag: u16) -> Method
-    ensures { result ≡ method_of flag }
-{
-    if flag == 1 { Method::Crc } else { Method::Iso }
+impl From<u16> for Method {
+    ghost from_gives = { λ flag method. method ≡ method_of flag };
+
+    fn from(flag: u16) -> Method {
+        if flag == 1 { Method::Crc } else { Method::Iso }
+    }
 }
 
 // Error control over some octets by a method, for the reader and the writer alike.

@@ -4,7 +4,7 @@ ghost use Rattle.octets.specs.Numbers.{octet};
 ghost use Rattle.fields.specs.Fields.{header};
 ghost use Rattle.tc.specs.Layout.{right_control, fields_of, data_span};
 
-use crate::{Fields, HEAD};
+use crate::{Fields, HEAD, Method};
 use fields::Header;
 use octets::copy::Span;
 
@@ -22,16 +22,17 @@ pub fn data_span(p: &[u8]) -> Span
 pub fn control_at(octets: usize) -> usize
     ensures { result ≡ octets - 2 }
 {
-    if octets < 2 { 0 } else { octets - 2 }
+    octets.saturating_sub(2)
 }
 
 // The right error control of a packet: by the method that its checksum flag selects, over every octet but the last two.
+#[tactic(auto, using(octets::proofs::Between::between_front), unfolding(crate::specs::Layout::error_control, crate::specs::Layout::fields_of))]
 pub fn control(p: &[u8]) -> u16
     ensures { result ≡ right_control p.now }
 {
     let head = header_of(p);
     crate::error_control(
-        crate::method_of(head.checksum),
+        Method::from(head.checksum),
         octets::copy::part(p, 0, control_at(p.len())),
     )
 }
@@ -44,6 +45,7 @@ pub fn header_of(p: &[u8]) -> Header
 }
 
 // The fields at their places.
+#[tactic(auto, unfolding(crate::specs::Layout::fields_of))]
 pub fn fields(p: &[u8]) -> Fields
     ensures { result ≡ fields_of p.now }
 {
@@ -53,8 +55,8 @@ pub fn fields(p: &[u8]) -> Fields
     Fields {
         apid: id.apid,
         count: control.count,
-        checksum: (head.checksum % 2) as u8,
-        ack: (head.ack % 16) as u8,
+        checksum: head.checksum as u8,
+        ack: head.ack as u8,
         kind: octets::numbers::one(p, 7),
         subtype: octets::numbers::one(p, 8),
         pad: octets::numbers::one(p, 9),

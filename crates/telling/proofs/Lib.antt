@@ -1,3 +1,2 @@
 pub mod Tables
-pub mod Faults
 pub mod Lengths

@@ -1,53 +1,65 @@
--- Laws of a table in text: the walk to the end of its first row, its rows by number, and a table that is made of rows.
+-- Laws of a table in text: its rows by number, and a table that is made of rows.
 -- Assumes nothing.
 use mathlib.Core.Path.{◌≡◌, refl, ap, ◌∙◌}
 use mathlib.Core.Bool.{Bool, true, ◌&&◌}
 use mathlib.Core.List.{List, [], ◌∷◌, ◌++◌}
-use Prim.Native.Nat.{ℕ, zero, suc, ◌+◌, ◌-◌, ◌≤◌, ◌<◌}
+use Prim.Native.Nat.{ℕ, zero, suc, ◌+◌, ◌≤◌, ◌<◌}
 use native.Mathlib.Omega.{arith}
-use lib.ListN.{length, get_or, take, drop, length-drop, drop_of_length-le}
-use lib.Seq.{take_all, take_at, drop-append-add}
+use lib.ListN.{length, take, drop}
+use lib.Seq.{take_at, drop-append-add}
 use lib.Dec.{eqb}
-use borrow.Author.Tests.{eq-eqb, ne_eqb, eqb-true}
-use Rattle.laws.proofs.Lists.{drop_next}
+use borrow.Author.Tests.{eqb-true}
+use Rattle.std.specs.Prelude.{Option, None, Some}
+use Rattle.std.specs.Option.{unwrap_or, option_map}
+use Rattle.std.specs.Borrow.{Bor}
+use Rattle.std.specs.List.{slice_get, slice_split, onto_first}
 use Rattle.laws.proofs.Tests.{by-test, both}
 use Rattle.lines.specs.Lines.{newline}
 use Rattle.telling.specs.Rows.{row_length, row_of}
 
--- ---- the walk to the end of the first row
+-- ---- rows by number, as the parts between newlines
 
-module _ (s : List ℕ) (at : ℕ) (h : at < length s) where
-  here : drop at s ≡ get_or s at 0 ∷ drop (at + 1) s
-  here = drop_next s at h
+abbrev pub is_newline : ℕ → Bool
+is_newline c = eqb c newline
 
-  pub length_pass : (get_or s at 0 ≡ newline → ⊥) → at + 1 + row_length (drop (at + 1) s) ≡ at + row_length (drop at s)
-  unfolding row_length
-  length_pass other = rw (here, ne_eqb (get_or s at 0) newline other) (omega arith)
+-- The part at a number, and nothing past the last one.
+abbrev part_of : ℕ → List (List ℕ) → List ℕ
+part_of n parts = unwrap_or (slice_get parts n) []
 
-  pub length_stop : get_or s at 0 ≡ newline → at ≡ at + row_length (drop at s)
-  unfolding row_length
-  length_stop e = rw (here, eq-eqb (get_or s at 0) newline e) (omega arith)
+onto_head : (c : ℕ) (p : List ℕ) (parts : List (List ℕ)) → slice_get parts 0 ≡ Some p → slice_get (onto_first c parts) 0 ≡ Some (c ∷ p)
+onto_head c p [] e = cc
+onto_head c p (q ∷ parts) e = cc
 
-pub length_past : (s : List ℕ) (at : ℕ) → length s ≤ at → at ≡ at + row_length (drop at s)
+onto_behind : (c n : ℕ) (parts : List (List ℕ)) → slice_get (onto_first c parts) (suc n) ≡ slice_get parts (suc n)
+onto_behind c n [] = refl
+onto_behind c n (q ∷ parts) = refl
+
+part_first : (s : List ℕ) → slice_get (slice_split is_newline s) 0 ≡ Some (take (row_length s) s)
 unfolding row_length
-length_past s at h = rw (drop_of_length-le s h) (omega arith)
+part_first [] = refl
+part_first (c ∷ s) =
+    by-test (eqb c newline) (λ e. rw e refl) (λ e. rw e (onto_head c (take (row_length s) s) (slice_split is_newline s) (part_first s)))
 
--- ---- rows by number
+part_next : (n : ℕ) (s : List ℕ) → part_of (suc n) (slice_split is_newline s) ≡ part_of n (slice_split is_newline (drop (row_length s + 1) s))
+unfolding row_length
+part_next zero [] = refl
+part_next (suc n) [] = refl
+part_next n (c ∷ s) =
+    by-test (eqb c newline)
+    (λ e. rw e refl)
+    (λ e.
+    let more : suc (row_length s) + 1 ≡ suc (row_length s + 1) = omega arith in
+    rw (e, more) (ap (λ (r : Option (List ℕ)). unwrap_or r []) (onto_behind c n (slice_split is_newline s)) ∙ part_next n s))
 
-behind_row : (n : ℕ) (s : List ℕ) → (n ≡ 0 → ⊥) → row_of (n - 1) (drop (row_length s + 1) s) ≡ row_of n s
+row_part : (n : ℕ) (s : List ℕ) → part_of n (slice_split is_newline s) ≡ row_of n s
 unfolding row_of
-behind_row zero s some = absurd (some refl)
-behind_row (suc n) s some = let same : suc n - 1 ≡ n = omega arith in rw same refl
+row_part zero s = ap (λ (r : Option (List ℕ)). unwrap_or r []) (part_first s)
+row_part (suc n) s = part_next n s ∙ row_part n (drop (row_length s + 1) s)
 
-module _ (n : ℕ) (s : List ℕ) {end : ℕ} (e : end ≡ row_length s) where
-  pub row_first : n ≡ 0 → take end s ≡ row_of n s
-  unfolding row_of
-  row_first none = rw (none, e) refl
-
-  pub row_next : {rest : List ℕ} → (n ≡ 0 → ⊥) → rest ≡ take (length s) (drop (end + 1) s) → row_of (n - 1) rest ≡ row_of n s
-  row_next some p =
-      let all : take (length s) (drop (end + 1) s) ≡ drop (end + 1) s = take_all (length s) (drop (end + 1) s) (omega (arith, length-drop (end + 1) s)) in
-      ap (λ (t : List ℕ). row_of (n - 1) t) (p ∙ all ∙ ap (λ (k : ℕ). drop (k + 1) s) e) ∙ behind_row n s some
+pub row_found : (n : ℕ) (s : List ℕ) (r : Option (Bor (List ℕ))) (d : Bor (List ℕ)) → d.now ≡ []
+    → option_map (λ (x : Bor (List ℕ)). x.now) r ≡ slice_get (slice_split is_newline s) n → (unwrap_or r d).now ≡ row_of n s
+row_found n s None d e f = e ∙ ap (λ (r : Option (List ℕ)). unwrap_or r []) f ∙ row_part n s
+row_found n s (Some x) d e f = ap (λ (r : Option (List ℕ)). unwrap_or r []) f ∙ row_part n s
 
 pub row-none : (n : ℕ) → row_of n [] ≡ []
 unfolding row_of row_length

@@ -1,76 +1,55 @@
 -- docs/UNITS.md: the words for what is wrong with a unit file, for a line that is refused by 70, and for a unit that is not sound.
-use Rattle.std.specs.Prelude.{cond, List, [], ◌∷◌, ◌++◌, ℕ, eqb}
+use Rattle.std.specs.Prelude.{List, [], ◌∷◌, ◌++◌, ℕ}
 use Rattle.characters.specs.Digits.{text_of}
 use Rattle.lines.specs.Lines.{newline}
 use Rattle.words.specs.Ascii.{ascii}
 use Rattle.numerals.specs.Numbers.{decimal_of}
-use Rattle.stating.specs.Faults.{line_long, no_item, pid_twice, pid_form, pid_large, services_twice, services_form, service_twice, store_twice, store_form, store_large, put_early, put_form, put_digits, put_odd, put_past, area_ninth, area_form, area_id, area_odd, area_size, right_twice, number_form, number_large, no_pid, no_store}
+use Rattle.stating.specs.declared.fault.Fault.{Fault}
+use Rattle.stating.specs.declared.fault.Fault.TheVariants.{LineLong, NoItem, PidTwice, PidForm, PidLarge, ServicesTwice, ServicesForm, ServiceTwice, StoreTwice, StoreForm, StoreLarge, PutEarly, PutForm, PutDigits, PutOdd, PutPast, AreaNinth, AreaForm, AreaId, AreaOdd, AreaSize, RightTwice, NumberForm, NumberLarge, NoPid, NoStore}
 use Rattle.packline.specs.declared.Halt.{Halt}
+use Rattle.packline.specs.declared.Halt.TheVariants.{Unit, Long, Character, Odd, Differs, NoPacket}
 
--- Of the line and its first word, and of the end.
-abbrev pub line_words : ℕ → List ℕ
-line_words f =
-    cond (eqb f line_long) (ascii "a line has at most 4096 characters")
-    (cond (eqb f no_item) (ascii "a line begins with pid, services, store, put or area")
-    (cond (eqb f no_pid) (ascii "a unit has \"pid N\", and no line has it")
-    (cond (eqb f no_store) (ascii "a unit has \"store N\", and no line has it") [])))
-
--- Of `pid`.
-abbrev pub pid_words : ℕ → List ℕ
-pid_words f =
-    cond (eqb f pid_twice) (ascii "pid stands once, and an earlier line has it")
-    (cond (eqb f pid_form) (ascii "a process ID is \"pid N\"")
-    (cond (eqb f pid_large) (ascii "a process ID is at most 255") (line_words f)))
-
--- Of `services`.
-abbrev pub services_words : ℕ → List ℕ
-services_words f =
-    cond (eqb f services_twice) (ascii "services stands once, and an earlier line has it")
-    (cond (eqb f services_form) (ascii "services are \"services WORD ..\": one or more of load, dump, check and connection")
-    (cond (eqb f service_twice) (ascii "a service stands once on its line") (pid_words f)))
-
--- Of `store`.
-abbrev pub store_words : ℕ → List ℕ
-store_words f =
-    cond (eqb f store_twice) (ascii "store stands once, and an earlier line has it")
-    (cond (eqb f store_form) (ascii "a store is \"store N\"")
-    (cond (eqb f store_large) (ascii "a store has at most 65536 octets") (services_words f)))
-
--- Of `put`.
-abbrev pub put_words : ℕ → List ℕ
-put_words f =
-    cond (eqb f put_early) (ascii "put stands behind store, and no earlier line has it")
-    (cond (eqb f put_form) (ascii "octets are put by \"put AT HEX ..\"")
-    (cond (eqb f put_digits) (ascii "HEX is hexadecimal digits")
-    (cond (eqb f put_odd) (ascii "HEX is two digits for each octet")
-    (cond (eqb f put_past) (ascii "octets are put inside the store") (store_words f)))))
-
--- Of `area`.
-abbrev pub area_words : ℕ → List ℕ
-area_words f =
-    cond (eqb f area_ninth) (ascii "a unit has at most 8 areas")
-    (cond (eqb f area_form) (ascii "an area is \"area ID start N words N at N [size N] [load] [dump] [check]\"")
-    (cond (eqb f area_id) (ascii "a memory ID is at most 255")
-    (cond (eqb f area_odd) (ascii "an area begins at an even octet of the store")
-    (cond (eqb f area_size) (ascii "a word has 2 octets")
-    (cond (eqb f right_twice) (ascii "a right stands once on its line") (put_words f))))))
-
--- Of anything that is wrong with a unit file: a number's first.
-abbrev pub fault_words : ℕ → List ℕ
-fault_words f =
-    cond (eqb f number_form) (ascii "a number is decimal digits without a leading zero, or 0x and hexadecimal digits")
-    (cond (eqb f number_large) (ascii "a number is at most 4294967295") (area_words f))
+-- What is wrong with a unit file: with the line and its first word, with `pid`, `services`, `store`, `put` and `area`, with a number, and at the end.
+abbrev pub fault_words : Fault → List ℕ
+fault_words LineLong = ascii "a line has at most 4096 characters"
+fault_words NoItem = ascii "a line begins with pid, services, store, put or area"
+fault_words PidTwice = ascii "pid stands once, and an earlier line has it"
+fault_words PidForm = ascii "a process ID is \"pid N\""
+fault_words PidLarge = ascii "a process ID is at most 255"
+fault_words ServicesTwice = ascii "services stands once, and an earlier line has it"
+fault_words ServicesForm = ascii "services are \"services WORD ..\": one or more of load, dump, check and connection"
+fault_words ServiceTwice = ascii "a service stands once on its line"
+fault_words StoreTwice = ascii "store stands once, and an earlier line has it"
+fault_words StoreForm = ascii "a store is \"store N\""
+fault_words StoreLarge = ascii "a store has at most 65536 octets"
+fault_words PutEarly = ascii "put stands behind store, and no earlier line has it"
+fault_words PutForm = ascii "octets are put by \"put AT HEX ..\""
+fault_words PutDigits = ascii "HEX is hexadecimal digits"
+fault_words PutOdd = ascii "HEX is two digits for each octet"
+fault_words PutPast = ascii "octets are put inside the store"
+fault_words AreaNinth = ascii "a unit has at most 8 areas"
+fault_words AreaForm = ascii "an area is \"area ID start N words N at N [size N] [load] [dump] [check]\""
+fault_words AreaId = ascii "a memory ID is at most 255"
+fault_words AreaOdd = ascii "an area begins at an even octet of the store"
+fault_words AreaSize = ascii "a word has 2 octets"
+fault_words RightTwice = ascii "a right stands once on its line"
+fault_words NumberForm = ascii "a number is decimal digits without a leading zero, or 0x and hexadecimal digits"
+fault_words NumberLarge = ascii "a number is at most 4294967295"
+fault_words NoPid = ascii "a unit has \"pid N\", and no line has it"
+fault_words NoStore = ascii "a unit has \"store N\", and no line has it"
 
 -- The line that tells the first bad line of a unit file.
-unfoldable pub unit_line : ℕ → ℕ → List ℕ
+unfoldable pub unit_line : ℕ → Fault → List ℕ
 unit_line number fault = ascii "unit " ++ (decimal_of number ++ (ascii ": " ++ (fault_words fault ++ newline ∷ [])))
 
--- Why a line is refused by 70.
+-- Why a line is refused by 70; of any other reason to stop nothing.
 abbrev pub halt_words : Halt → List ℕ
-halt_words h =
-    cond (eqb h.kind 1) (ascii "too long")
-    (cond (eqb h.kind 2) (ascii "character " ++ (decimal_of h.place ++ (ascii " is " ++ text_of (h.octet ∷ []))))
-    (cond (eqb h.kind 3) (ascii "odd digits") []))
+halt_words Long = ascii "too long"
+halt_words (Character place octet) = ascii "character " ++ (decimal_of place ++ (ascii " is " ++ text_of (octet ∷ [])))
+halt_words Odd = ascii "odd digits"
+halt_words (Unit fault) = []
+halt_words Differs = []
+halt_words NoPacket = []
 
 unfoldable pub halt_line : Halt → List ℕ
 halt_line h = halt_words h ++ newline ∷ []

@@ -1,7 +1,7 @@
 // The words for what is wrong with a unit file, for a line that is refused by 70, and for a unit that is not sound.
 #![tactic(auto)]
 
-ghost use Rattle.std.specs.Prelude.{[], ◌∷◌, ◌++◌};
+ghost use Rattle.std.specs.Prelude.{◌≡◌, [], ◌∷◌, ◌++◌};
 ghost use Rattle.characters.specs.Digits.{text_of};
 ghost use Rattle.words.specs.Ascii.{ascii};
 ghost use Rattle.saying.specs.Text.{SaysBy};
@@ -9,17 +9,18 @@ ghost use Rattle.numerals.specs.Numbers.{decimal_of};
 ghost use Rattle.telling.specs.Telling.{fault_words, unit_line, halt_words, halt_line, unsound_line};
 
 use packline::Halt;
+use stating::fault::Fault;
 
 pub mod rows; // rows.rt: a table in text
 
 // The line that tells the first bad line of a unit file.
-pub fn unit_line(number: u64, fault: u8, text: &mut [u8], at: usize) -> usize
+pub fn unit_line(number: u64, fault: Fault, text: &mut [u8], at: usize) -> usize
     ensures { SaysBy (unit_line number fault) at text result }
 {
     let first = saying::text(text, at, b"unit ");
     let digits = numerals::decimal(text, first, number);
     let colon = saying::text(text, digits, b": ");
-    let words = fault_words(fault, text, colon);
+    let words = saying::text(text, colon, fault_words(fault));
     saying::end(text, words)
 }
 
@@ -39,54 +40,52 @@ pub fn unsound_line(text: &mut [u8], at: usize) -> usize
     saying::end(text, words)
 }
 
-// What is said of what is wrong with a unit file: a row for each number of stating::fault, and nothing for FINE, the first.
-fn fault_words(f: u8, text: &mut [u8], at: usize) -> usize
-    ensures { SaysBy (fault_words f) at text result }
+// The words for what is wrong with a unit file.
+fn fault_words(f: Fault) -> &'static [u8]
+    ensures { result.now ≡ fault_words f }
 {
-    rows::put(
-        b"\n\
-          a line has at most 4096 characters\n\
-          a line begins with pid, services, store, put or area\n\
-          pid stands once, and an earlier line has it\n\
-          a process ID is \"pid N\"\n\
-          a process ID is at most 255\n\
-          services stands once, and an earlier line has it\n\
-          services are \"services WORD ..\": one or more of load, dump, check and connection\n\
-          a service stands once on its line\n\
-          store stands once, and an earlier line has it\n\
-          a store is \"store N\"\n\
-          a store has at most 65536 octets\n\
-          put stands behind store, and no earlier line has it\n\
-          octets are put by \"put AT HEX ..\"\n\
-          HEX is hexadecimal digits\n\
-          HEX is two digits for each octet\n\
-          octets are put inside the store\n\
-          a unit has at most 8 areas\n\
-          an area is \"area ID start N words N at N [size N] [load] [dump] [check]\"\n\
-          a memory ID is at most 255\n\
-          an area begins at an even octet of the store\n\
-          a word has 2 octets\n\
-          a right stands once on its line\n\
-          a number is decimal digits without a leading zero, or 0x and hexadecimal digits\n\
-          a number is at most 4294967295\n\
-          a unit has \"pid N\", and no line has it\n\
-          a unit has \"store N\", and no line has it\n",
-        f,
-        text,
-        at,
-    )
+    match f {
+        Fault::LineLong => b"a line has at most 4096 characters",
+        Fault::NoItem => b"a line begins with pid, services, store, put or area",
+        Fault::PidTwice => b"pid stands once, and an earlier line has it",
+        Fault::PidForm => b"a process ID is \"pid N\"",
+        Fault::PidLarge => b"a process ID is at most 255",
+        Fault::ServicesTwice => b"services stands once, and an earlier line has it",
+        Fault::ServicesForm =>
+            b"services are \"services WORD ..\": one or more of load, dump, check and connection",
+        Fault::ServiceTwice => b"a service stands once on its line",
+        Fault::StoreTwice => b"store stands once, and an earlier line has it",
+        Fault::StoreForm => b"a store is \"store N\"",
+        Fault::StoreLarge => b"a store has at most 65536 octets",
+        Fault::PutEarly => b"put stands behind store, and no earlier line has it",
+        Fault::PutForm => b"octets are put by \"put AT HEX ..\"",
+        Fault::PutDigits => b"HEX is hexadecimal digits",
+        Fault::PutOdd => b"HEX is two digits for each octet",
+        Fault::PutPast => b"octets are put inside the store",
+        Fault::AreaNinth => b"a unit has at most 8 areas",
+        Fault::AreaForm =>
+            b"an area is \"area ID start N words N at N [size N] [load] [dump] [check]\"",
+        Fault::AreaId => b"a memory ID is at most 255",
+        Fault::AreaOdd => b"an area begins at an even octet of the store",
+        Fault::AreaSize => b"a word has 2 octets",
+        Fault::RightTwice => b"a right stands once on its line",
+        Fault::NumberForm =>
+            b"a number is decimal digits without a leading zero, or 0x and hexadecimal digits",
+        Fault::NumberLarge => b"a number is at most 4294967295",
+        Fault::NoPid => b"a unit has \"pid N\", and no line has it",
+        Fault::NoStore => b"a unit has \"store N\", and no line has it",
+    }
 }
 
 // What is said of why a line is refused by 70.
 fn halt_words(h: Halt, text: &mut [u8], at: usize) -> usize
     ensures { SaysBy (halt_words h) at text result }
 {
-    let kind = h.kind;
-    match kind {
-        packline::LONG => saying::text(text, at, b"too long"),
-        packline::CHARACTER => character_words(h.place, h.octet, text, at),
-        packline::ODD => saying::text(text, at, b"odd digits"),
-        _ => saying::kept(text, at),
+    match h {
+        Halt::Long => saying::text(text, at, b"too long"),
+        Halt::Character { place, octet } => character_words(place, octet, text, at),
+        Halt::Odd => saying::text(text, at, b"odd digits"),
+        Halt::Unit(_) | Halt::Differs | Halt::NoPacket => saying::kept(text, at),
     }
 }
 

@@ -8,7 +8,7 @@ use native.Mathlib.Nat.{zero-add}
 use lib.ListN.{length}
 use Rattle.laws.specs.Fold.{joined}
 use Rattle.octets.specs.Copy.{laid}
-use Rattle.checks.specs.declared.Verdict.{Verdict}
+use Rattle.checks.specs.Verdict.{Verdict}
 use Rattle.tm.specs.Frame.{Report, frames_of, counts_after}
 use Rattle.tm.proofs.Frame.{time_six}
 use Rattle.terminal.specs.declared.Outcome.{Outcome}

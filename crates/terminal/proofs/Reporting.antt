@@ -6,7 +6,7 @@ use mathlib.Core.List.{List, [], ◌∷◌}
 use Prim.Native.Nat.{ℕ, ◌+◌, ◌≤◌}
 use native.Mathlib.Omega.{arith}
 use lib.ListN.{length}
-use Rattle.checks.specs.declared.Verdict.{Verdict}
+use Rattle.checks.specs.Verdict.{Verdict}
 use Rattle.map.specs.declared.Area.{Area}
 use Rattle.map.specs.Place.{dump_words}
 use Rattle.blocks.specs.declared.Block.{Block}

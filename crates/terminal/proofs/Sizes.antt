@@ -6,7 +6,7 @@ use Prim.Native.Nat.{ℕ, ◌*◌, ◌≤◌}
 use native.Mathlib.Omega.{arith}
 use lib.ListN.{length, length-append, length-take}
 use Rattle.laws.specs.Each.{Each}
-use Rattle.checks.specs.declared.Verdict.{Verdict}
+use Rattle.checks.specs.Verdict.{Verdict}
 use Rattle.checks.specs.Verdict.{number_of, detail_of}
 use Rattle.map.specs.declared.Area.{Area}
 use Rattle.map.specs.Place.{dump_words, stored_at}

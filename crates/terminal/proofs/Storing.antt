@@ -1,5 +1,6 @@
 -- What a packet leaves of the store: its length, and every octet that lies in no area of the profile.
 -- Assumes nothing.
+use Rattle.std.specs.Prelude.{Some, None, Option}
 use mathlib.Core.Path.{◌≡◌, refl, sym, ap, ◌∙◌}
 use mathlib.Core.Bool.{true}
 use mathlib.Core.List.{List, Memᴰ}
@@ -23,8 +24,7 @@ use Rattle.blocks.proofs.WellFormed.{right_words}
 use Rattle.requests.specs.declared.Action.{Action}
 use Rattle.requests.specs.declared.Action.TheVariants.{Load, Dump, Check}
 use Rattle.requests.specs.declared.Request.TheVariants.{Memory as Asks, Connection as Connects}
-use Rattle.requests.specs.declared.Asked.{Asked}
-use Rattle.requests.specs.declared.Asked.TheVariants.{Known, Unknown}
+use Rattle.requests.specs.declared.Request.{Request}
 use Rattle.serving.specs.declared.Task.{Task}
 use Rattle.serving.specs.declared.Task.TheVariants.{Idle, Memory, Connection}
 use Rattle.requests.specs.Request.{carried_by, most_words, outside_of}
@@ -82,13 +82,13 @@ module _ (a : Area) (d : List ℕ) (k : ℕ) (off : Off a k) where
 abbrev OffAll : Profile → ℕ → Type 0
 OffAll p k = (a : Area) → Memᴰ a (used p) → Off a k
 
-service_kept : (p : Profile) (asked : Asked) (d store : List ℕ) (k : ℕ) → AllHold (service_rows p asked d) → OffAll p k
+service_kept : (p : Profile) (asked : Option Request) (d store : List ℕ) (k : ℕ) → AllHold (service_rows p asked d) → OffAll p k
     → get_or (done (task_for p asked d) d store).store k 0 ≡ get_or store k 0
-service_kept p (Known (Asks action)) d store k all off =
+service_kept p (Some (Asks action)) d store k all off =
     let m = memory_facts p action d all in
     rw m.named (memory_kept m.area d k (off m.area (found_member (memory_id d) (used p) m.area m.named)) action store m.formed m.inside)
-service_kept p (Known Connects) d store k all off = refl
-service_kept p Unknown d store k all off = refl
+service_kept p (Some Connects) d store k all off = refl
+service_kept p None d store k all off = refl
 
 -- It never changes.
 pub outside_areas_kept : (i : Input) (k : ℕ) → OffAll i.profile k → get_or (store_on i) k 0 ≡ get_or i.store k 0

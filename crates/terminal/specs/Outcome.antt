@@ -2,7 +2,7 @@
 use Rattle.std.specs.Prelude.{◌≡◌, cond, List, [], ◌∷◌, ◌++◌, ℕ, ◌≤◌, length}
 use Rattle.laws.specs.Fold.{joined}
 use Rattle.octets.specs.Copy.{laid}
-use Rattle.checks.specs.declared.Verdict.{Verdict}
+use Rattle.checks.specs.Verdict.{Verdict}
 use Rattle.checks.specs.Verdict.{is_accepted, silent}
 use Rattle.tc.specs.Layout.{fields_of, application_of}
 use Rattle.map.specs.declared.Profile.{Profile}

@@ -12,6 +12,7 @@ use requests::Action;
 use serving::{Job, Task, Work};
 
 // (6,6) for each block, in order.
+// The first three functions here each require a place and a form: no one value has both, so a type that kept them would be made only to be taken apart.
 fn dump(
     area: Area,
     sender: Sender,
@@ -25,15 +26,9 @@ fn dump(
 {
     let carried = requests::carried_by(Action::Dump);
     let memory = blocks::reading::memory_id(application);
-    let count = blocks::reading::block_count(application);
     let mut q = p;
-    let mut place: usize = blocks::FIRST;
-    let mut i: u8 = 0;
-    while i < count {
-        let block = blocks::reading::block_at(carried, application, place);
+    for block in blocks::reading::blocks(carried, application) {
         q = laying::report_block(area, memory, sender, q, block, store, out);
-        place = block.next;
-        i += 1;
     }
     q
 }
@@ -50,15 +45,13 @@ fn serve_memory(
     requires { (p.at ≤ echo_size) × Formed job.action application.now }
     ensures { Serves sender p result out.old out.new (memory_done job.area job.action application.now store.old) store.new }
 {
-    let area = job.area;
-    let action = job.action;
-    match action {
+    match job.action {
         Action::Load => {
-            memory::load(area, application, store);
+            memory::load(job.area, application, store);
             p
         }
-        Action::Dump => dump(area, sender, p, application, store, out),
-        Action::Check => laying::report_check(area, sender, p, application, store, out),
+        Action::Dump => dump(job.area, sender, p, application, store, out),
+        Action::Check => laying::report_check(job.area, sender, p, application, store, out),
     }
 }
 
@@ -96,7 +89,6 @@ pub(crate) fn carry_out(
     let ack = work.ack;
     let application = octets::copy::placed(packet, work.data);
     let first = laying::report_echo(ack % 2 == 1, sender, p, 1, packet, out);
-    let task = work.task;
-    let next = serve(sender, task, first, application, store, out);
+    let next = serve(sender, work.task, first, application, store, out);
     laying::report_echo(ack / 8 % 2 == 1, sender, next, 7, packet, out)
 }

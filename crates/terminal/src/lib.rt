@@ -30,38 +30,41 @@ pub fn answer(
 ) -> Outcome
     ensures { Answered (input profile state time packet.now store.old out.old) result store.new out.new }
 {
-    let decision = decide::decide(profile, state, store.len(), out.len(), packet);
-    let verdict = decision.verdict;
-    if checks::is_silent(verdict) {
-        return Outcome {
-            verdict,
-            written: 0,
-            state,
-        };
-    }
     let sender = Sender {
         pid: profile.pid,
         time,
     };
-    let counts = state.counts;
-    let start = Progress { at: 0, counts };
-    if checks::accepted(verdict) {
-        let work = decision.work;
-        let end = act::carry_out(sender, work, start, packet, store, out);
-        return outcome_of(verdict, end);
+    let start = Progress {
+        at: 0,
+        counts: state.counts,
+    };
+    match decide::decide(profile, state, store.len(), out.len(), packet) {
+        Ok(work) => {
+            let end = act::carry_out(sender, work, start, packet, store, out);
+            outcome_of(Ok(()), end)
+        }
+        Err(refusal) => {
+            let verdict = Err(refusal);
+            if checks::is_silent(verdict) {
+                return Outcome {
+                    verdict,
+                    written: 0,
+                    state,
+                };
+            }
+            let end = laying::report_refusal(verdict, sender, start, packet, out);
+            outcome_of(verdict, end)
+        }
     }
-    let end = laying::report_refusal(verdict, sender, start, packet, out);
-    outcome_of(verdict, end)
 }
 
 // The outcome of a verdict whose reports were laid from the front of the output buffer on.
 fn outcome_of(verdict: Verdict, p: Progress) -> Outcome
     ensures { result ≡ record { verdict = verdict; written = p.at; state = record { counts = p.counts } } }
 {
-    let counts = p.counts;
     Outcome {
         verdict,
         written: p.at as usize,
-        state: State { counts },
+        state: State { counts: p.counts },
     }
 }

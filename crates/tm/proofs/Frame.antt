@@ -1,11 +1,10 @@
 -- Laws of one frame: how long it is, what its length field says, and that it may be laid in steps.
 -- Assumes nothing.
-use mathlib.Core.Path.{◌≡◌, refl, sym, ap, ap₂, ◌∙◌}
+use mathlib.Core.Path.{◌≡◌, refl, sym, ap, ◌∙◌}
 use mathlib.Core.List.{List, [], ◌∷◌, ◌++◌, append_assoc}
 use Prim.Native.Nat.{ℕ, ◌+◌, ◌*◌, ◌-◌, ◌/◌, ◌%◌, ◌<◌}
 use native.Mathlib.Omega.{arith}
-use lib.ListN.{length, get_or, take, drop, length-append}
-use lib.Seq.{get_or-drop}
+use lib.ListN.{length, take, length-append}
 use Rattle.octets.specs.Copy.{laid}
 use Rattle.octets.specs.Numbers.{word16}
 use Rattle.octets.proofs.Laid.{laid-append}
@@ -34,12 +33,6 @@ frame_size_lem s source rest six small =
     let n : ℕ = (length source + frame_head - uncounted) % 65536 in
     let field : word16 (frame_of s source ++ rest) 4 ≡ n / 256 * 256 + n % 256 = refl in
     omega (arith, field, frame_length s source six)
-
--- The length field of the frame that begins at a place.
-pub size_at : (s : List ℕ) (from : ℕ) → frame_size (drop from s) ≡ word16 s (from + 4) + uncounted
-size_at s from =
-    let low : from + 5 ≡ from + 4 + 1 = omega arith in
-    ap₂ (λ (a b : ℕ). a * 256 + b + uncounted) (get_or-drop from s 4 0) (get_or-drop from s 5 0 ∙ ap (λ (n : ℕ). get_or s n 0) low)
 
 -- The head laid, and behind it the source data.
 pub laid_frame : (d : List ℕ) (at : ℕ) (s : Stamp) (source : List ℕ) → length s.time ≡ 6

@@ -31,10 +31,11 @@ pub struct Stamp {
 }
 
 // The sixteen octets before the source data of a frame with so many octets of it.
+#[tactic(auto, using(crate::proofs::Frame::time_six), unfolding(crate::specs::Frame::head_of))]
 pub fn head(stamp: Stamp, octets: usize) -> [u8; 16]
     ensures { result ≡ head_of stamp octets }
 {
-    let apid = fields::join_apid(stamp.pid as u16, counts::category(stamp.kind));
+    let apid = fields::join_apid(u16::from(stamp.pid), counts::category(stamp.kind));
     let id = octets::numbers::octets_of16(fields::join_id(PacketId {
         version: 0,
         kind: 0,
@@ -48,6 +49,7 @@ pub fn head(stamp: Stamp, octets: usize) -> [u8; 16]
     // Reduced first: to the largest count nothing can be added.
     let length = octets::numbers::octets_of16(((octets % FIELD + HEAD - UNCOUNTED) % FIELD) as u16);
     let time = stamp.time;
+    // Octet by octet, as the packet's layout has them: no plainer where parts are copied to their places.
     [
         id[0],
         id[1],
@@ -69,11 +71,12 @@ pub fn head(stamp: Stamp, octets: usize) -> [u8; 16]
 }
 
 // Lays a frame into a buffer from a place on and answers how many octets it has; those that would stand past the buffer's end are dropped.
+#[tactic(auto, using(crate::proofs::Frame::laid_frame, crate::proofs::Frame::frame_length))]
 pub fn put_frame(out: &mut [u8], at: u16, stamp: Stamp, source: &[u8]) -> usize
     ensures { LaysFrame (frame_of stamp source.now) at out.old result out.new }
 {
     let first = head(stamp, source.len());
-    let place = at as usize;
+    let place = usize::from(at);
     let next = place + HEAD;
     octets::copy::put(out, place, &first);
     octets::copy::put(out, next, source) + HEAD
@@ -83,10 +86,7 @@ pub fn put_frame(out: &mut [u8], at: u16, stamp: Stamp, source: &[u8]) -> usize
 pub fn frame_end(frames: &[u8], from: usize) -> usize
     ensures { result ≡ min (from + frame_size (drop from frames.now)) (length frames.now) }
 {
-    let all = frames.len();
-    if all <= from {
-        return all;
-    }
-    let size = (octets::numbers::word16_at(frames, from + 4) as usize) + UNCOUNTED;
-    if size <= all - from { from + size } else { all }
+    let frame = octets::copy::behind(frames, from);
+    let size = usize::from(octets::numbers::word16_at(frame, 4)) + UNCOUNTED;
+    octets::numbers::least_sum(from, size, frames.len())
 }

@@ -1,5 +1,6 @@
 -- What is laid out as a frame reads back, and what reads cleanly is the frame of what was read.
 -- Assumes nothing.
+use Rattle.std.specs.Prelude.{Ok}
 use mathlib.Core.Path.{◌≡◌, refl, sym, ap, ap₂, subst, ◌∙◌}
 use mathlib.Core.Bool.{true, ◌&&◌}
 use mathlib.Core.List.{List, [], ◌∷◌, ◌++◌, append-nil}
@@ -23,10 +24,9 @@ use Rattle.tm.specs.declared.Stamp.{Stamp}
 use Rattle.tm.specs.Frame.{frame_head, uncounted, time_of, head_of, frame_of, frame_size}
 use Rattle.tm.proofs.Frame.{frame_length, frame_size_lem}
 use Rattle.contents.specs.Kinds.{is_known, type_of, subtype_of}
-use Rattle.contents.specs.Source.{formed, contents_in}
-use Rattle.contents.specs.Told.{Told, kind_told, source_of, Fits, told_by}
+use Rattle.contents.specs.Source.{formed_if, contents_if}
+use Rattle.contents.specs.Told.{Told, kind_told, source_of, Fits, told_if}
 use Rattle.contents.proofs.Sources.{told_from, told-parts, told_kind, source_again, source_fits, fits_formed, fits_told, fits_known, fits_short, kind_again, known_type}
-use Rattle.tmreader.specs.declared.Verdict.TheVariants.{Clean}
 use Rattle.tmreader.specs.Reader.{is_clean, size_right, bits_right, head_right, kind_in, kind_right, source_in, source_right, frame_rows, judged, time_in, stamp_in, reading_of}
 use Rattle.tmreader.specs.Telling.{stamp_for, frame_for, ReadsAs, StampFits, IsFrame}
 use Rattle.tmreader.proofs.Judged.{judged_clean, clean_holds}
@@ -73,9 +73,9 @@ module _ (pid count : ℕ) (w : List ℕ) (t : Told) (p : pid < 128) (n : count 
       simp (known, eq-eqb _ _ category)
 
   frame_source_right : source_right f ≡ true
-  frame_source_right = ap₂ formed frame_kind frame_source ∙ fits_formed t fits
+  frame_source_right = ap₂ formed_if frame_kind frame_source ∙ fits_formed t fits
 
-  frame_clean : judged f ≡ Clean
+  frame_clean : judged f ≡ Ok tt
   frame_clean = judged_clean f frame_size_right frame_head_right frame_kind_right frame_source_right
 
   frame_stamp : stamp_in f ≡ stamp_for pid count (time_of w) t
@@ -85,7 +85,7 @@ module _ (pid count : ℕ) (w : List ℕ) (t : Told) (p : pid < 128) (n : count 
       let counted : (sequence (word16 f 2)).count ≡ count = omega arith in
       λ i. record { pid = whose i; count = counted i; time = time_of w; kind = type_of (kind_told t); subtype = subtype_of (kind_told t) }
 
-  frame_told : told_by f (contents_in (kind_in f) (source_in f)) ≡ t
+  frame_told : told_if f (contents_if (kind_in f) (source_in f)) ≡ t
   frame_told =
       told-parts (kind_in f) f (omega (arith, long)) frame_source_right ∙ ap₂ told_from frame_kind frame_source ∙ fits_told t fits
 
@@ -120,7 +120,7 @@ record Facts (f : List ℕ) : Type 0 where
   category : (packet_id (word16 f 0)).apid % 16 ≡ category_of (octet f 13)
   source : source_right f ≡ true
 
-facts : (f : List ℕ) → judged f ≡ Clean → Facts f
+facts : (f : List ℕ) → judged f ≡ Ok tt → Facts f
 unfolding frame_rows AllHold size_right head_right bits_right kind_right
 facts f h =
     let rows : AllHold (frame_rows f) = clean_holds f (ap is_clean h) in
@@ -175,7 +175,7 @@ id_again x version kind flag =
     let one : x / 2048 ≡ 1 = one_bit (x / 2048) 1 quarter flag in
     whole_again x one
 
-module _ (f : List ℕ) (o : Octets f) (h : judged f ≡ Clean) where
+module _ (f : List ℕ) (o : Octets f) (h : judged f ≡ Ok tt) where
   k : Facts f
   k = facts f h
 
@@ -200,7 +200,7 @@ module _ (f : List ℕ) (o : Octets f) (h : judged f ≡ Clean) where
       (sym k.zero_12) (sym k.zero_15)
 
   abbrev told : Told
-  told = told_by f (contents_in (kind_in f) (source_in f))
+  told = told_if f (contents_if (kind_in f) (source_in f))
 
   told_is : told ≡ told_from (kind_in f) (source_in f)
   told_is = told-parts (kind_in f) f k.least k.source
@@ -245,7 +245,7 @@ module _ (f : List ℕ) (o : Octets f) (h : judged f ≡ Clean) where
   told_fits = subst Fits (sym told_is) (source_fits (kind_in f) (source_in f) (drop_octets frame_head f o) k.source)
 
 -- Whatever reads cleanly is the frame of what was read, octet for octet.
-pub clean_frame : (f : List ℕ) → Octets f → (reading_of f).verdict ≡ Clean → IsFrame reading_of f
+pub clean_frame : (f : List ℕ) → Octets f → (reading_of f).verdict ≡ Ok tt → IsFrame reading_of f
 unfolding reading_of stamp_in
 clean_frame f o h =
     let stamp = clean_stamp f o h in

@@ -1,5 +1,5 @@
 -- Document 02, wish 1: the checks 60 to 63 of a TM frame, in order, and what the reader returns.
-use Rattle.std.specs.Prelude.{◌≡◌, Bool, true, false, cond, ◌&&◌, List, [], ◌∷◌, ℕ, ◌/◌, ◌%◌, length, drop, leb, eqb}
+use Rattle.std.specs.Prelude.{◌≡◌, Bool, cond, is_ok, Result, ◌&&◌, List, [], ◌∷◌, ℕ, ◌/◌, ◌%◌, length, drop, leb, eqb, Ok, Err, Option, None}
 use Rattle.octets.specs.Numbers.{octet, word16}
 use Rattle.octets.specs.Copy.{nowhere}
 use Rattle.octets.specs.declared.copy.Span.{Span}
@@ -11,14 +11,11 @@ use Rattle.counts.specs.Counts.{category_of}
 use Rattle.tm.specs.declared.Stamp.{Stamp}
 use Rattle.tm.specs.Frame.{frame_head, frame_size}
 use Rattle.contents.specs.declared.Kind.{Kind}
-use Rattle.contents.specs.declared.Contents.TheVariants.{Nothing}
 use Rattle.contents.specs.Kinds.{kind_of, is_known}
-use Rattle.contents.specs.Source.{formed, contents_in}
-use Rattle.contents.specs.Told.{Told, told_by}
+use Rattle.contents.specs.Source.{formed_if, contents_if}
+use Rattle.contents.specs.Told.{Told, told_if}
 use Rattle.tmreader.specs.declared.Flaw.{Flaw}
 use Rattle.tmreader.specs.declared.Flaw.TheVariants.{Size, Header, Kind as BadKind, Source}
-use Rattle.tmreader.specs.declared.Verdict.{Verdict}
-use Rattle.tmreader.specs.declared.Verdict.TheVariants.{Clean, Refused}
 use Rattle.tmreader.specs.declared.Reading.{Reading}
 
 -- The number of each check.
@@ -28,15 +25,18 @@ flaw_number Header = 61
 flaw_number BadKind = 62
 flaw_number Source = 63
 
+-- What a frame is answered: that it reads cleanly, or the first check that fails.
+abbrev pub Verdict : Type 0
+Verdict = Result Unit Flaw
+
 -- That a frame reads cleanly is marked apart from every number.
 abbrev pub is_clean : Verdict → Bool
-is_clean Clean = true
-is_clean (Refused flaw) = false
+is_clean v = is_ok v
 
 -- The number of a refusal; 0 stands for none.
 abbrev pub number_of : Verdict → ℕ
-number_of Clean = 0
-number_of (Refused flaw) = flaw_number flaw
+number_of (Ok _) = 0
+number_of (Err flaw) = flaw_number flaw
 
 -- ---- the checks
 
@@ -52,8 +52,8 @@ bits_right id control = eqb id.version 0 && eqb id.kind 0 && eqb id.header 1 && 
 unfoldable pub head_right : List ℕ → Bool
 head_right f = bits_right (packet_id (word16 f 0)) (sequence (word16 f 2)) && eqb (octet f 12) 0 && eqb (octet f 15) 0
 
--- The kind of report that type and subtype, octets 13 and 14, say.
-abbrev pub kind_in : List ℕ → Kind
+-- The kind of report that type and subtype, octets 13 and 14, say, if they say one.
+abbrev pub kind_in : List ℕ → Option Kind
 kind_in f = kind_of (octet f 13) (octet f 14)
 
 -- 62: one of the six kinds, and the category of its service; any process ID.
@@ -66,7 +66,7 @@ source_in f = drop frame_head f
 
 -- 63: source data of that kind.
 abbrev pub source_right : List ℕ → Bool
-source_right f = formed (kind_in f) (source_in f)
+source_right f = formed_if (kind_in f) (source_in f)
 
 -- A row of the table: the check, and whether it holds.
 abbrev pub row : Flaw → Bool → Row Flaw
@@ -78,7 +78,7 @@ frame_rows f = row Size (size_right f) ∷ row Header (head_right f) ∷ row Bad
 
 -- The verdict: the first check that fails.
 unfoldable pub judged : List ℕ → Verdict
-judged f = answer Clean Refused (frame_rows f)
+judged f = answer (Ok tt) Err (frame_rows f)
 
 -- ---- what is read
 
@@ -110,12 +110,12 @@ reading_of f = record {
   verdict = judged f;
   stamp = cond (is_clean (judged f)) (stamp_in f) no_stamp;
   source = cond (is_clean (judged f)) (source_span f) nowhere;
-  contents = cond (is_clean (judged f)) (contents_in (kind_in f) (source_in f)) Nothing;
+  contents = cond (is_clean (judged f)) (contents_if (kind_in f) (source_in f)) None;
 }
 
 -- What the frame tells.
 abbrev pub told_in : List ℕ → Told
-told_in f = told_by f (reading_of f).contents
+told_in f = told_if f (reading_of f).contents
 
 -- What a caller is promised: verdict, stamp, source data and contents, all by one equation.
 abbrev pub Reads : List ℕ → Reading → Type 0

@@ -1,12 +1,11 @@
 -- The frame that tells something, by the layouts of document 01; and what a frame reads as.
-use Rattle.std.specs.Prelude.{◌≡◌, List, ℕ, ◌<◌, length}
+use Rattle.std.specs.Prelude.{◌≡◌, List, ℕ, ◌<◌, length, Ok}
 use Rattle.octets.specs.Numbers.{Octets}
 use Rattle.octets.specs.Copy.{placed}
 use Rattle.tm.specs.declared.Stamp.{Stamp}
 use Rattle.tm.specs.Frame.{frame_of}
 use Rattle.contents.specs.Kinds.{type_of, subtype_of}
-use Rattle.contents.specs.Told.{Told, kind_told, source_of, Fits, told_by}
-use Rattle.tmreader.specs.declared.Verdict.TheVariants.{Clean}
+use Rattle.contents.specs.Told.{Told, kind_told, source_of, Fits, told_if}
 use Rattle.tmreader.specs.declared.Reading.{Reading}
 
 -- The stamp of a frame that tells something: its type and subtype are those of its kind.
@@ -23,11 +22,11 @@ FrameReader = List ℕ → Reading
 
 -- What a reader has a frame tell.
 abbrev pub told_to : FrameReader → List ℕ → Told
-told_to read f = told_by f (read f).contents
+told_to read f = told_if f (read f).contents
 
 -- What a frame reads as: cleanly, with that stamp, and telling that; and the source data handed back is what tells it.
 pub record ReadsAs (read : FrameReader) (s : Stamp) (t : Told) (f : List ℕ) : Type 0 where
-  pub verdict : (read f).verdict ≡ Clean
+  pub verdict : (read f).verdict ≡ Ok tt
   pub stamp : (read f).stamp ≡ s
   pub told : told_to read f ≡ t
   pub source : placed (read f).source f ≡ source_of t

@@ -2,7 +2,8 @@
 #![tactic(auto)]
 
 ghost use Rattle.std.specs.Prelude.{◌≡◌};
-ghost use Rattle.tmreader.specs.Reader.{flaw_number, is_clean, number_of, size_right, bits_right, head_right, kind_in, kind_right, source_in, source_right, judged, time_in, stamp_in, Reads};
+ghost use Rattle.contents.specs.Source.{contents_if};
+ghost use Rattle.tmreader.specs.Reader.{flaw_number, number_of, size_right, bits_right, head_right, kind_in, kind_right, source_in, source_right, judged, time_in, stamp_in, Reads};
 
 use contents::{Contents, Kind};
 use fields::{PacketId, Sequence};
@@ -23,11 +24,7 @@ pub enum Flaw {
 }
 
 // What a frame is answered: that it reads cleanly, or the first check that fails.
-#[derive(Clone, Copy)]
-pub enum Verdict {
-    Clean,
-    Refused(Flaw),
-}
+pub type Verdict = Result<(), Flaw>;
 
 // What the reader returns: the verdict, the stamp, the part of the frame that is its source data, and what that tells; where the frame is refused all fields are 0, the part is empty and nothing is told.
 #[derive(Clone, Copy)]
@@ -35,7 +32,7 @@ pub struct Reading {
     pub verdict: Verdict,
     pub stamp: Stamp,
     pub source: Span,
-    pub contents: Contents,
+    pub contents: Option<Contents>,
 }
 
 // Where the two octets stand that are zero, and type and subtype between them.
@@ -51,24 +48,16 @@ const LAST_ZERO_AT: usize = 15;
 const CATEGORIES: u16 = 16;
 
 // The number of a check.
-pub fn flaw_number(flaw: Flaw) -> u8
-    ensures { result ≡ flaw_number flaw }
-{
-    match flaw {
-        Flaw::Size => 60,
-        Flaw::Header => 61,
-        Flaw::Kind => 62,
-        Flaw::Source => 63,
-    }
-}
+impl From<Flaw> for u8 {
+    ghost from_gives = { λ flaw number. number ≡ flaw_number flaw };
 
-// Whether a frame reads cleanly.
-pub fn is_clean(v: Verdict) -> bool
-    ensures { result ≡ is_clean v }
-{
-    match v {
-        Verdict::Clean => true,
-        Verdict::Refused(_) => false,
+    fn from(flaw: Flaw) -> u8 {
+        match flaw {
+            Flaw::Size => 60,
+            Flaw::Header => 61,
+            Flaw::Kind => 62,
+            Flaw::Source => 63,
+        }
     }
 }
 
@@ -77,29 +66,28 @@ pub fn number(v: Verdict) -> u8
     ensures { result ≡ number_of v }
 {
     match v {
-        Verdict::Clean => 0,
-        Verdict::Refused(flaw) => flaw_number(flaw),
+        Ok(()) => 0,
+        Err(flaw) => flaw.into(),
     }
 }
 
 // Reads a frame.
+#[tactic(auto, unfolding(crate::specs::Reader::reading_of))]
 pub fn read(f: &[u8]) -> Reading
     ensures { Reads f.now result }
 {
-    let verdict = judge(f);
-    if is_clean(verdict) {
-        Reading {
-            verdict,
+    match judge(f) {
+        Ok(()) => Reading {
+            verdict: Ok(()),
             stamp: stamp(f),
             source: Span {
                 from: HEAD,
                 to: f.len(),
             },
-            contents: contents::read(kind(f), source(f)),
-        }
-    } else {
-        Reading {
-            verdict,
+            contents: told(f),
+        },
+        Err(flaw) => Reading {
+            verdict: Err(flaw),
             stamp: Stamp {
                 pid: 0,
                 count: 0,
@@ -108,28 +96,29 @@ pub fn read(f: &[u8]) -> Reading
                 subtype: 0,
             },
             source: Span { from: 0, to: 0 },
-            contents: Contents::Nothing,
-        }
+            contents: None,
+        },
     }
 }
 
 // The verdict of the checks.
+#[tactic(auto, unfolding(crate::specs::Reader::judged, crate::specs::Reader::frame_rows, checks::specs::Table::answer))]
 fn judge(f: &[u8]) -> Verdict
     ensures { result ≡ judged f.now }
 {
     if !size_right(f) {
-        return Verdict::Refused(Flaw::Size);
+        return Err(Flaw::Size);
     }
     if !head_right(f) {
-        return Verdict::Refused(Flaw::Header);
+        return Err(Flaw::Header);
     }
     if !kind_right(f) {
-        return Verdict::Refused(Flaw::Kind);
+        return Err(Flaw::Kind);
     }
-    if !contents::formed(kind(f), source(f)) {
-        return Verdict::Refused(Flaw::Source);
+    if !source_right(f) {
+        return Err(Flaw::Source);
     }
-    Verdict::Clean
+    Ok(())
 }
 
 // 60: at least 16 octets, and the length field plus 7.
@@ -137,10 +126,7 @@ fn judge(f: &[u8]) -> Verdict
 fn size_right(f: &[u8]) -> bool
     ensures { result ≡ size_right f.now }
 {
-    if f.len() < HEAD {
-        return false;
-    }
-    f.len() == (octets::numbers::word16_at(f, 4) as usize) + UNCOUNTED
+    HEAD <= f.len() && f.len() == usize::from(octets::numbers::word16_at(f, 4)) + UNCOUNTED
 }
 
 // Version, type bit, header flag and sequence flags.
@@ -148,16 +134,7 @@ fn size_right(f: &[u8]) -> bool
 fn bits_right(id: PacketId, control: Sequence) -> bool
     ensures { result ≡ bits_right id control }
 {
-    if id.version != 0 {
-        return false;
-    }
-    if id.kind != 0 {
-        return false;
-    }
-    if id.header != 1 {
-        return false;
-    }
-    control.flags == 3
+    id.version == 0 && id.kind == 0 && id.header == 1 && control.flags == 3
 }
 
 // 61: the header bits, and the octets that are zero.
@@ -165,17 +142,13 @@ fn bits_right(id: PacketId, control: Sequence) -> bool
 fn head_right(f: &[u8]) -> bool
     ensures { result ≡ head_right f.now }
 {
-    if !bits_right(fields::id_of(f), fields::sequence_of(f)) {
-        return false;
-    }
-    if octets::numbers::octet_at(f, ZERO_AT) != 0 {
-        return false;
-    }
-    octets::numbers::octet_at(f, LAST_ZERO_AT) == 0
+    bits_right(fields::id_of(f), fields::sequence_of(f))
+        && octets::numbers::octet_at(f, ZERO_AT) == 0
+        && octets::numbers::octet_at(f, LAST_ZERO_AT) == 0
 }
 
-// The kind of report that type and subtype say.
-fn kind(f: &[u8]) -> Kind
+// The kind of report that type and subtype say, if they say one.
+fn kind(f: &[u8]) -> Option<Kind>
     ensures { result ≡ kind_in f.now }
 {
     contents::kind_of(
@@ -189,11 +162,22 @@ fn kind(f: &[u8]) -> Kind
 fn kind_right(f: &[u8]) -> bool
     ensures { result ≡ kind_right f.now }
 {
-    if !contents::is_known(kind(f)) {
-        return false;
-    }
-    let id = fields::id_of(f);
-    id.apid % CATEGORIES == counts::category(octets::numbers::one(f, KIND_AT))
+    kind(f).is_some()
+        && fields::id_of(f).apid % CATEGORIES == counts::category(octets::numbers::one(f, KIND_AT))
+}
+
+// 63: source data of that kind.
+fn source_right(f: &[u8]) -> bool
+    ensures { result ≡ source_right f.now }
+{
+    kind(f).is_some_and(|kind| contents::formed(kind, source(f)))
+}
+
+// What the source data tells, by its kind.
+fn told(f: &[u8]) -> Option<Contents>
+    ensures { result ≡ contents_if (kind_in f.now) (source_in f.now) }
+{
+    kind(f).map(|kind| contents::read(kind, source(f)))
 }
 
 // The source data.
@@ -207,14 +191,7 @@ fn source(f: &[u8]) -> &[u8]
 fn time(f: &[u8]) -> [u8; 6]
     ensures { result ≡ time_in f.now }
 {
-    [
-        octets::numbers::one(f, TIME_FIRST),
-        octets::numbers::one(f, TIME_FIRST + 1),
-        octets::numbers::one(f, TIME_FIRST + 2),
-        octets::numbers::one(f, TIME_FIRST + 3),
-        octets::numbers::one(f, TIME_FIRST + 4),
-        octets::numbers::one(f, TIME_FIRST + 5),
-    ]
+    std::array::from_fn(|place| octets::numbers::one(f, TIME_FIRST + place))
 }
 
 // The stamp: whose frame it is, its count, its time, its type and subtype.

@@ -8,7 +8,7 @@ ghost use Rattle.contents.specs.Source.{entries_in};
 ghost use Rattle.contents.specs.Told.{told_by, dump, check};
 ghost use Rattle.toldtext.specs.Told.{in_decimal, in_hex, echo_text, failure_text, block_text, entry_text, entries_text, told_text};
 
-use contents::{Checked, Contents, Dumped, ENTRY, Echo, Entry, Failed};
+use contents::{Checked, Contents, Dumped, Echo, Entry, Failed};
 
 // Adds a word and a number in decimal.
 pub fn put_decimal(word: &[u8], n: u64, text: &mut [u8], at: usize) -> usize
@@ -64,20 +64,14 @@ fn put_entry(e: Entry, text: &mut [u8], at: usize) -> usize
 }
 
 // Adds what is said of so many blocks.
-#[tactic(auto, using(crate::proofs::Entries::no_entries, octets::proofs::Laid::laid_none))]
 fn put_entries(blocks: u8, entries: &[u8], text: &mut [u8], at: usize) -> usize
     ensures { SaysBy (entries_text (entries_in blocks entries.now)) at text result }
 {
-    if blocks == 0 {
-        return saying::kept(text, at);
+    let mut end = saying::kept(text, at);
+    for number in 0..blocks {
+        end = put_entry(contents::entry_at(entries, number), text, end);
     }
-    let first = put_entry(contents::entry_at(entries, 0), text, at);
-    put_entries(
-        blocks - 1,
-        octets::copy::behind(entries, ENTRY),
-        text,
-        first,
-    )
+    end
 }
 
 // Adds what a dump tells.
@@ -119,6 +113,5 @@ pub fn put_told(frame: &[u8], told: Contents, text: &mut [u8], at: usize) -> usi
         Contents::Dumps(dumped) => put_dumped(frame, dumped, text, at),
         Contents::Checks(checked) => put_checked(frame, checked, text, at),
         Contents::Connects => saying::kept(text, at),
-        Contents::Nothing => saying::kept(text, at),
     }
 }

@@ -2,12 +2,11 @@
 #![tactic(auto)]
 
 ghost use Rattle.std.specs.Prelude.{◌≡◌};
-ghost use Rattle.stating.specs.Stating.{words_behind};
-ghost use Rattle.unit.specs.Unit.{nothing_stated, is_some, with_pid, with_services, with_store, end_fault};
-ghost use Rattle.map.specs.Made.{blank as BlankArea};
+ghost use Rattle.unit.specs.Unit.{nothing_stated, with_pid, with_services, with_store, end_fault};
 
 use map::{Area, Flags, Profile, Rights};
-use stating::fault;
+use stating::NO_FLAGS;
+use stating::fault::Fault;
 
 // The unit so far: its profile, which items that stand once are stated, and how many octets its store has.
 #[derive(Clone, Copy)]
@@ -19,29 +18,18 @@ pub struct Draft {
     pub stored: usize,
 }
 
-// The unit behind a line, and what is wrong with the line.
-#[derive(Clone, Copy)]
-pub struct Stated {
-    pub draft: Draft,
-    pub fault: u8,
-}
-
 // An area that is not used.
-fn blank() -> Area
-    ensures { result ≡ BlankArea }
-{
-    Area {
-        id: 0,
-        start: 0,
-        length: 0,
-        first: 0,
-        rights: Rights {
-            load: false,
-            dump: false,
-            check: false,
-        },
-    }
-}
+const BLANK: Area = Area {
+    start: 0,
+    length: 0,
+    first: 0,
+    id: 0,
+    rights: Rights {
+        load: false,
+        dump: false,
+        check: false,
+    },
+};
 
 // Before the first line nothing is stated.
 pub fn nothing() -> Draft
@@ -50,14 +38,9 @@ pub fn nothing() -> Draft
     Draft {
         profile: Profile {
             pid: 0,
-            flags: Flags {
-                load: false,
-                dump: false,
-                check: false,
-                connection: false,
-            },
+            flags: NO_FLAGS,
             count: 0,
-            areas: [blank(); 8],
+            areas: [BLANK; 8],
         },
         pid: false,
         services: false,
@@ -68,63 +51,47 @@ pub fn nothing() -> Draft
 
 // What is wrong at the end: `pid` or `store` is missing.
 #[tactic(auto, unfolding(crate::specs::Unit::end_fault))]
-pub fn missing(d: Draft) -> u8
+pub fn missing(d: Draft) -> Option<Fault>
     ensures { result ≡ end_fault d }
 {
     if !d.pid {
-        return fault::NO_PID;
+        return Some(Fault::NoPid);
     }
     if !d.store {
-        return fault::NO_STORE;
+        return Some(Fault::NoStore);
     }
-    fault::FINE
-}
-
-// Whether a word stands on a line from a place on.
-pub fn more(line: &[u8], at: usize) -> bool
-    ensures { result ≡ is_some (words_behind line.now at) }
-{
-    let p = words::next(line, at);
-    p.from < p.to
-}
-
-// The unit as it is, and what is wrong.
-pub fn told(d: Draft, fault: u8) -> Stated
-    ensures { result ≡ record { draft = d; fault = fault } }
-{
-    Stated { draft: d, fault }
+    None
 }
 
 // A unit with its PID stated.
 pub fn with_pid(d: Draft, pid: u8) -> Draft
     ensures { result ≡ with_pid d pid }
 {
-    let mut profile = d.profile;
-    profile.pid = pid;
-    let mut next = d;
-    next.profile = profile;
-    next.pid = true;
-    next
+    Draft {
+        profile: Profile { pid, ..d.profile },
+        pid: true,
+        ..d
+    }
 }
 
 // A unit with its services stated.
 pub fn with_services(d: Draft, flags: Flags) -> Draft
     ensures { result ≡ with_services d flags }
 {
-    let mut profile = d.profile;
-    profile.flags = flags;
-    let mut next = d;
-    next.profile = profile;
-    next.services = true;
-    next
+    Draft {
+        profile: Profile { flags, ..d.profile },
+        services: true,
+        ..d
+    }
 }
 
 // A unit with its store stated.
 pub fn with_store(d: Draft, octets: usize) -> Draft
     ensures { result ≡ with_store d octets }
 {
-    let mut next = d;
-    next.store = true;
-    next.stored = octets;
-    next
+    Draft {
+        store: true,
+        stored: octets,
+        ..d
+    }
 }

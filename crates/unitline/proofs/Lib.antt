@@ -1,3 +1,1 @@
-pub mod Areas
-pub mod States
 pub mod Octets

@@ -1,85 +1,75 @@
 // What a line of a unit file states: an item by its first word.
 #![tactic(auto)]
 
-ghost use Rattle.std.specs.Prelude.{◌≡◌, false, ◌∷◌, ◌<◌};
-ghost use Rattle.words.specs.Ascii.{ascii};
-ghost use Rattle.words.specs.Words.{same_text};
-ghost use Rattle.stating.specs.Stating.{words_behind};
-ghost use Rattle.unitline.specs.Line.{ninth_fault, item_stated, line_stated, line_put};
-ghost use Rattle.unit.specs.Unit.{with_area, stated};
-ghost use Rattle.arealine.specs.Area.{area_in};
+ghost use Rattle.std.specs.Prelude.{◌≡◌, ◌∷◌, ◌<◌};
+ghost use Rattle.stating.specs.Stating.{words_left};
+ghost use Rattle.unitline.specs.Line.{ninth_stated, item_stated, item_put, line_stated, line_put};
+ghost use Rattle.unit.specs.Unit.{with_area};
 
-use map::Area;
-use stating::fault;
-use unit::{Draft, Stated};
-
-// How many areas there are at the most.
-const AREAS: u8 = 8;
+use map::{Area, Profile};
+use stating::Words;
+use stating::fault::Fault;
+use unit::Draft;
 
 // A unit with one area more.
 fn with_area(d: Draft, area: Area) -> Draft
     requires { d.profile.count < 8 }
     ensures { result ≡ with_area d area }
 {
-    let mut profile = d.profile;
-    let count = profile.count;
-    let areas = profile.areas;
-    let more = map::set_area(areas, count as usize, area);
-    profile.areas = more;
-    profile.count = count + 1;
-    let mut next = d;
-    next.profile = profile;
-    next
+    let count = d.profile.count;
+    Draft {
+        profile: Profile {
+            count: count + 1,
+            areas: map::set_area(d.profile.areas, count as usize, area),
+            ..d.profile
+        },
+        ..d
+    }
 }
 
 // `area ID start N words N at N [size N] [RIGHT ..]`.
-fn area(d: Draft, line: &[u8], at: usize) -> Stated
-    ensures { result ≡ stated d (ninth_fault d (words_behind line.now at)) (with_area d (area_in (words_behind line.now at))) }
+fn area(d: Draft, words: Words) -> Result<Draft, Fault>
+    ensures { result ≡ ninth_stated d (words_left words.entry) }
 {
-    let profile = d.profile;
-    if AREAS <= profile.count {
-        return unit::told(d, fault::AREA_NINTH);
+    if map::AREAS <= d.profile.count as usize {
+        return Err(Fault::AreaNinth);
     }
-    let a = arealine::area(line, at);
-    if a.fault != fault::FINE {
-        return unit::told(d, a.fault);
-    }
-    let area = a.area;
-    unit::told(with_area(d, area), fault::FINE)
+    Ok(with_area(d, arealine::area(words)?))
 }
 
-// An item by its first word, but `put`.
-fn item(d: Draft, word: &[u8], line: &[u8], at: usize) -> Stated
-    requires { same_text word.now (ascii "put") ≡ false }
-    ensures { result ≡ item_stated d (word.now ∷ words_behind line.now at) }
+// What an item states by its first word, and what it puts into the store. The texts are compared one by one: the proof of a `match` on them, character by character, does not close.
+#[tactic(auto, unfolding(crate::specs::Line::item_stated, crate::specs::Line::item_put))]
+fn item(d: Draft, word: &[u8], words: Words, store: &mut [u8]) -> Result<Draft, Fault>
+    ensures value { result ≡ item_stated d (word.now ∷ words_left words.entry) }
+    ensures store_after { store.new ≡ item_put d store.old (word.now ∷ words_left words.entry) }
 {
+    if words::same(word, b"put") {
+        return putting::put(d, words, store);
+    }
     if words::same(word, b"pid") {
-        return once::pid(d, line, at);
+        return once::pid(d, words);
     }
     if words::same(word, b"services") {
-        return once::services(d, line, at);
+        return once::services(d, words);
     }
     if words::same(word, b"store") {
-        return once::store(d, line, at);
+        return once::store(d, words);
     }
     if words::same(word, b"area") {
-        return area(d, line, at);
+        return area(d, words);
     }
-    unit::told(d, fault::NO_ITEM)
+    Err(Fault::NoItem)
 }
 
 // What a line states, and what it puts into the store.
-pub fn state(d: Draft, line: &[u8], store: &mut [u8]) -> Stated
+#[tactic(auto, unfolding(crate::specs::Line::item_stated, crate::specs::Line::item_put, crate::specs::Line::line_stated, crate::specs::Line::line_put))]
+pub fn state(d: Draft, line: &[u8], store: &mut [u8]) -> Result<Draft, Fault>
     ensures value { result ≡ line_stated d line.now }
     ensures store_after { store.new ≡ line_put d store.old line.now }
 {
-    let p = words::next(line, 0);
-    if p.to <= p.from {
-        return unit::told(d, fault::FINE);
+    let mut words = Words::new(line);
+    match words.next() {
+        Some(word) => item(d, word, words, store),
+        None => Ok(d),
     }
-    let word = octets::copy::placed(line, p);
-    if words::same(word, b"put") {
-        return putting::put(d, line, p.to, store);
-    }
-    item(d, word, line, p.to)
 }

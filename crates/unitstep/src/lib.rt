@@ -2,25 +2,21 @@
 #![tactic(auto)]
 
 ghost use Rattle.std.specs.Prelude.{◌≡◌};
-ghost use Rattle.unitstep.specs.Step.{faulty as Faulty};
-ghost use Rattle.unitstep.specs.Step.{unit_desk, unit_store, unit_long_desk, unit_end};
+ghost use Rattle.unitstep.specs.Step.{bad_desk, unit_desk, unit_store, unit_long_desk, unit_end};
 
 use desk::Desk;
 use packline::Halt;
-use stating::fault::{FINE, LINE_LONG};
+use stating::fault::Fault;
 
-// What is wrong with a line of a unit file, as a reason to stop.
-fn faulty(fault: u8) -> Halt
-    ensures { result ≡ Faulty fault }
+// A bad line is counted, and the reader stops at it.
+fn bad(d: Desk, fault: Fault) -> Desk
+    ensures { result ≡ bad_desk d fault }
 {
-    Halt {
-        kind: fault,
-        place: 0,
-        octet: 0,
-    }
+    desk::halting(desk::counted(d), Halt::Unit(fault))
 }
 
 // A line of a unit file: what it states, and what it puts into the store.
+#[tactic(auto, unfolding(crate::specs::Step::unit_desk, crate::specs::Step::unit_store))]
 pub fn unit_desk(d: Desk, line: &[u8], store: &mut [u8]) -> Desk
     ensures value { result ≡ unit_desk d line.now }
     ensures store_after { store.new ≡ unit_store d store.old line.now }
@@ -28,21 +24,21 @@ pub fn unit_desk(d: Desk, line: &[u8], store: &mut [u8]) -> Desk
     if desk::is_halted(d) {
         return d;
     }
-    let draft = d.draft;
-    let s = unitline::state(draft, line, store);
-    let stated = s.draft;
-    let next = desk::counted(desk::with_draft(d, stated));
-    desk::halting(next, faulty(s.fault))
+    match unitline::state(d.draft, line, store) {
+        Ok(draft) => desk::counted(desk::with_draft(d, draft)),
+        Err(fault) => bad(d, fault),
+    }
 }
 
 // A line of a unit file that is too long.
+#[tactic(auto, unfolding(crate::specs::Step::unit_long_desk))]
 pub fn unit_long(d: Desk) -> Desk
     ensures { result ≡ unit_long_desk d }
 {
     if desk::is_halted(d) {
         return d;
     }
-    desk::halting(desk::counted(d), faulty(LINE_LONG))
+    bad(d, Fault::LineLong)
 }
 
 // The end of a unit file: something may be missing.
@@ -53,10 +49,8 @@ pub fn unit_end(d: Desk) -> Desk
     if desk::is_halted(d) {
         return d;
     }
-    let draft = d.draft;
-    let fault = unit::missing(draft);
-    if fault == FINE {
-        return d;
+    match unit::missing(d.draft) {
+        None => d,
+        Some(fault) => bad(d, fault),
     }
-    desk::halting(desk::counted(d), faulty(fault))
 }

@@ -1,4 +1,5 @@
 -- When one profile is wider than another: it is reflexive over sound profiles and transitive, and what is found in the narrower is covered by what is found in the wider.
+use Rattle.std.specs.Prelude.{Some, None, Option}
 use mathlib.Core.Bool.{true, false≢true}
 use mathlib.Core.Logic.{⊎_elim}
 use mathlib.Core.List.{List, [], ◌∷◌, Memᴰ}
@@ -7,8 +8,6 @@ use Prim.Native.Nat.{ℕ}
 use borrow.Author.Tests.{eqb-true, eq-eqb}
 use Rattle.map.specs.declared.Area.{Area}
 use Rattle.map.specs.declared.Profile.{Profile}
-use Rattle.map.specs.declared.Found.{Found}
-use Rattle.map.specs.declared.Found.TheVariants.{At, Nothing}
 use Rattle.map.specs.Place.{used, find_in}
 use Rattle.laws.specs.Each.{every}
 use Rattle.map.specs.Sound.{sound}
@@ -92,39 +91,39 @@ wider_trans a b c octets h k =
 pub wider_finds :
     (wide narrow : Profile) (octets id : ℕ) (a : Area)
     → wider wide narrow octets ≡ true
-    → find_in id (used narrow) ≡ At a
-    → (b : Area) × (find_in id (used wide) ≡ At b) × (covers b a ≡ true)
+    → find_in id (used narrow) ≡ Some a
+    → (b : Area) × (find_in id (used wide) ≡ Some b) × (covers b a ≡ true)
 wider_finds wide narrow octets id a h k =
     let f = wider_facts wide narrow octets h in
     let y = covered_by (used wide) a (every_member (covered (used wide)) (found_member id (used narrow) a k) f.areas) in
     let same : y.0.id ≡ id = (covers_facts y.0 a y.2).id ∙ found_id id (used narrow) a k in
-    let there : find_in y.0.id (used wide) ≡ At y.0 = member_found y.1 (sound_facts wide octets f.wide-sound).pairs in
+    let there : find_in y.0.id (used wide) ≡ Some y.0 = member_found y.1 (sound_facts wide octets f.wide-sound).pairs in
     (y.0, rw same at there, y.2)
 
 pub wider-none :
     (wide narrow : Profile) (octets id : ℕ)
     → wider wide narrow octets ≡ true
-    → find_in id (used wide) ≡ Nothing
-    → find_in id (used narrow) ≡ Nothing
+    → find_in id (used wide) ≡ None
+    → find_in id (used narrow) ≡ None
 wider-none wide narrow octets id h k = none (find_in id (used narrow)) refl
   where
-    none : (o : Found) → find_in id (used narrow) ≡ o → o ≡ Nothing
-    none (At a) e = let w = wider_finds wide narrow octets id a h e in absurd (at_is_not_nothing _ w.0 w.1 k)
-    none Nothing e = refl
+    none : (o : Option Area) → find_in id (used narrow) ≡ o → o ≡ None
+    none (Some a) e = let w = wider_finds wide narrow octets id a h e in absurd (at_is_not_nothing _ w.0 w.1 k)
+    none None e = refl
 
 -- What a narrower profile finds by a memory ID and what a wider one finds: where the narrower has an area, the wider has one that covers it.
-pub data Widened : Found → Found → Type 0 where
-  nowhere : {o : Found} → Widened Nothing o
-  widening : {a b : Area} → covers b a ≡ true → Widened (At a) (At b)
+pub data Widened : Option Area → Option Area → Type 0 where
+  nowhere : {o : Option Area} → Widened None o
+  widening : {a b : Area} → covers b a ≡ true → Widened (Some a) (Some b)
 
 pub widened : (wide narrow : Profile) (octets id : ℕ) → wider wide narrow octets ≡ true
     → Widened (find_in id (used narrow)) (find_in id (used wide))
 widened wide narrow octets id h = go (find_in id (used narrow)) (find_in id (used wide)) refl refl
   where
-    go : (o p : Found) → find_in id (used narrow) ≡ o → find_in id (used wide) ≡ p → Widened o p
-    go Nothing p e f = nowhere
-    go (At a) Nothing e f = let w = wider_finds wide narrow octets id a h e in absurd (at_is_not_nothing _ w.0 w.1 f)
-    go (At a) (At b) e f =
+    go : (o p : Option Area) → find_in id (used narrow) ≡ o → find_in id (used wide) ≡ p → Widened o p
+    go None p e f = nowhere
+    go (Some a) None e f = let w = wider_finds wide narrow octets id a h e in absurd (at_is_not_nothing _ w.0 w.1 f)
+    go (Some a) (Some b) e f =
         let w = wider_finds wide narrow octets id a h e in
         let same : w.0 ≡ b = cc in
         widening (rw same at w.2)

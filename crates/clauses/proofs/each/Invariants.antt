@@ -1,10 +1,7 @@
 -- `each`: what is told of all is what is told of those that are left.
-use Rattle.std.proofs.Common.{◌≡◌, ◌+◌, ◌-◌, take, drop}
+use Rattle.std.proofs.Common.{◌≡◌, ◌+◌, drop}
 use Rattle.clauses.specs.Clauses.{own_from}
 use Rattle.clauses.proofs.each.Given as goal
 
 abbrev pub invariant-loop-i : goal.invariant-loop-i
-invariant-loop-i l = own_from l.octets 1 (take l.count l.areas) ≡ own_from l.octets (l.i + 1) (drop l.i (take l.count l.areas))
-
-abbrev pub decreases-loop-i : goal.decreases-loop-i
-decreases-loop-i l = l.count - l.i
+invariant-loop-i l = own_from l.octets 1 l.areas ≡ own_from l.octets (l.i + 1) (drop l.i l.areas)

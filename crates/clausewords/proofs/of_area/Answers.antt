@@ -1,6 +1,6 @@
--- `clausewords::of_area` meets its contract: the area, and the row of the table behind it.
+-- `clausewords::of_area` meets its contract: the area, and the words behind it.
 use Rattle.saying.proofs.Saying.{says_append}
 use Rattle.clausewords.proofs.of_area.Goals as goal
 
 pub returns : goal.returns
-returns c = says_append c.text-first.ensures (says_append c.decimal-area.ensures c.put.ensures)
+returns c = says_append c.text-first.ensures (says_append c.decimal-area.ensures c.text.ensures)

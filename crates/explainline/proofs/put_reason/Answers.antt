@@ -6,5 +6,6 @@ use Rattle.explainline.proofs.put_reason.Goals as goal
 pub returns : goal.returns
 unfolding reason_text
 returns c =
-    says_append c.decimal-first.ensures
-    (says_append c.put_decimal-second.ensures (says_append c.put_decimal-third.ensures (says_append c.put_decimal-fourth.ensures c.end.ensures)))
+    rw (c.from.ensures, c.from-2.ensures) at
+    (says_append c.decimal-first.ensures
+    (says_append c.put_decimal-second.ensures (says_append c.put_decimal-third.ensures (says_append c.put_decimal-fourth.ensures c.end.ensures))))

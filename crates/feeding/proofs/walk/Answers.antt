@@ -18,16 +18,16 @@ returns-in_default c =
 
 pub returns-then-text-at-lt-ANSWER_ROOM : goal.returns-then-text-at-lt-ANSWER_ROOM
 returns-then-text-at-lt-ANSWER_ROOM c =
-    walking_full (piece_program c.args.task) (pieces_task c.args.task) c.loop-count.invariant (sym c.next.ensures ∙ c.in-Piece.is) (short _ _ c.if-text-at-lt-ANSWER_ROOM.true refl)
+    walking_full (piece_program c.args.task) (pieces_task c.args.task) c.loop-count.invariant (sym c.next.ensures ∙ c.in-Some.is) (short _ _ c.if-text-at-lt-ANSWER_ROOM.true refl)
 
 pub loop-count-smaller : goal.loop-count-smaller
 loop-count-smaller c =
-    walking_less (piece_program c.args.task) (pieces_task c.args.task) c.loop-count.invariant (sym c.next.ensures ∙ c.in-Piece.is)
+    walking_less (piece_program c.args.task) (pieces_task c.args.task) c.loop-count.invariant (sym c.next.ensures ∙ c.in-Some.is)
     c.answer_piece-done.result.at c.passed-w.result c.passed-w.ensures
 
 pub loop-count-preserved : goal.loop-count-preserved
 loop-count-preserved c =
     let e = c.answer_piece-done.ensures in
-    walking_next (piece_program c.args.task) (pieces_task c.args.task) c.loop-count.invariant (sym c.next.ensures ∙ c.in-Piece.is)
+    walking_next (piece_program c.args.task) (pieces_task c.args.task) c.loop-count.invariant (sym c.next.ensures ∙ c.in-Some.is)
     _ _ c.answer_piece-done.result.at _ c.passed-w.result c.if-text-at-lt-ANSWER_ROOM.false c.piece-piece.ensures
     (did_after e) e.says.at_is e.says.text_is c.passed-w.ensures

@@ -6,5 +6,5 @@ use Rattle.fieldtext.proofs.put_read.Goals as goal
 pub returns : goal.returns
 unfolding read_text
 returns c =
-    rw (c.placed.ensures, c.code_of-code.ensures, c.read-reading.ensures) at
+    rw (c.placed.ensures, c.code_of.ensures, c.read-reading.ensures) at
     (says_append c.octets-first.ensures (says_append c.put_fields-second.ensures c.last.ensures))

@@ -6,6 +6,7 @@ use Rattle.frametext.proofs.put_stamp.Goals as goal
 pub returns : goal.returns
 unfolding stamp_text
 returns c =
-    says_append c.put_decimal-first.ensures
+    rw (c.from.ensures, c.from-2.ensures, c.from-3.ensures, c.from-4.ensures) at
+    (says_append c.put_decimal-first.ensures
     (says_append c.put_decimal-second.ensures
-    (says_append c.put_decimal-third.ensures (says_append c.put_decimal-fourth.ensures c.put_hex.ensures)))
+    (says_append c.put_decimal-third.ensures (says_append c.put_decimal-fourth.ensures c.put_hex.ensures))))

@@ -5,8 +5,8 @@ use Rattle.showing.proofs.write.Goals as goal
 
 pub returns : goal.returns
 returns c =
-    let most : c.word16_at-room.result ≤ 65536 = omega arith in
-    let long : length c.written_into-written.new.buffer ≡ c.word16_at-room.result =
-    c.written_into-written.auto.buffer ∙ taken_length c.word16_at-room.result 65536 0xEE most in
-    write_says c.args.given.now _ c.word16_at-room.ensures (take_replicate c.word16_at-room.result 65536 0xEE most) long
+    let most : c.from-room.result ≤ 65536 = omega arith in
+    let long : length c.written_into-written.new.buffer ≡ c.from-room.result =
+    c.written_into-written.auto.buffer ∙ taken_length c.from-room.result 65536 0xEE most in
+    write_says c.args.given.now _ (c.from-room.ensures ∙ c.word16_at.ensures) (take_replicate c.from-room.result 65536 0xEE most) long
     c.written_into-written.ensures c.put_written-code.ensures c.last.ensures

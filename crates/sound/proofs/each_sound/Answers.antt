@@ -1,23 +1,13 @@
--- `sound::each_sound` meets its contract.
-use Rattle.std.proofs.Common.{◌≡◌, ◌≤◌, length, sym, ◌∙◌, arith, rules}
-use Rattle.laws.specs.Each.{every}
-use Rattle.map.proofs.Walk.{left_next, left_none}
+-- `sound::each_sound` meets its contract: `all` says what `every` says.
+use Rattle.std.proofs.Common.{rules, sym, ◌∙◌}
+use Rattle.std.proofs.lemmas.Iterator.{YieldsList-from_slice}
+use Rattle.std.proofs.lemmas.Iterator.Search.{all_from_yields_List}
+use borrow.Author.Tests.{tests}
+use Rattle.map.specs.Sound.{area_sound}
+use Rattle.sound.proofs.Whole.{all_every}
 use Rattle.sound.proofs.each_sound.Goals as goal
 
-pub returns-then-not-is_area_sound : goal.returns-then-not-is_area_sound
-unfolding every
-returns-then-not-is_area_sound c =
-    let eight : length c.args.areas ≡ 8 = search rules in
-    let room : c.args.count ≤ length c.args.areas = omega arith in
-    rw (c.loop-i.invariant, left_next _ _ _ room c.loop-i-test.true, sym c.is_area_sound.ensures ∙ c.if-not-is_area_sound.true)
-
-pub loop-i-preserved : goal.loop-i-preserved
-unfolding every
-loop-i-preserved c =
-    let eight : length c.args.areas ≡ 8 = search rules in
-    let room : c.args.count ≤ length c.args.areas = omega arith in
-    rw (c.loop-i.invariant, left_next _ _ _ room c.loop-i-test.true, sym c.is_area_sound.ensures ∙ c.if-not-is_area_sound.false)
-
 pub returns : goal.returns
-unfolding every
-returns c = rw (c.loop-i.invariant, left_none _ _ _ c.loop-i-test.false)
+returns c =
+    all_from_yields_List (area_sound c.args.octets) _ _ _ c.all.ensures.ran (YieldsList-from_slice c.args.areas.now cc) (λ x b q k. search (rules, tests))
+    ∙ sym (all_every _ _)

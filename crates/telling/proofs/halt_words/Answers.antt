@@ -1,15 +1,9 @@
--- `telling::halt_words` meets its contract: of another kind nothing is said.
-use Rattle.std.proofs.Common.{◌≡◌, [], sym, arith}
-use borrow.Author.Tests.{ne_eqb}
-use Rattle.packline.specs.declared.Halt.{Halt}
-use Rattle.saying.proofs.Saying.{says_as, says_none}
-use Rattle.telling.specs.Telling.{halt_words}
+-- `telling::halt_words` meets its contract: of a reason of another program nothing is said.
+use Rattle.std.proofs.Common.{inl, inr}
+use Rattle.saying.proofs.Saying.{says_none}
 use Rattle.telling.proofs.halt_words.Goals as goal
 
-quiet : (h : Halt) → (h.kind ≡ 1 → ⊥) → (h.kind ≡ 2 → ⊥) → (h.kind ≡ 3 → ⊥) → [] ≡ halt_words h
-quiet h long character odd = sym (simp (ne_eqb h.kind 1 long, ne_eqb h.kind 2 character, ne_eqb h.kind 3 odd))
-
-pub returns-in_default : goal.returns-in_default
-returns-in_default c =
-    says_as (quiet c.args.h (λ (e : c.args.h.kind ≡ 1). omega (arith, e)) (λ (e : c.args.h.kind ≡ 2). omega (arith, e)) (λ (e : c.args.h.kind ≡ 3). omega (arith, e)))
-    (says_none c.kept.ensures)
+pub returns-in-Unit : goal.returns-in-Unit
+returns-in-Unit c =
+    let quiet = says_none c.kept.ensures in
+    elim c.in-Unit.is [ inl h ↦ rw h.1 quiet | inr h ↦ elim h [ inl e ↦ rw e quiet | inr e ↦ rw e quiet ] ]

@@ -7,4 +7,4 @@ pub returns : goal.returns
 unfolding unit_line
 returns c =
     says_append c.text-first.ensures
-    (says_append c.decimal-digits.ensures (says_append c.text-colon.ensures (says_append c.fault_words-words.ensures c.end.ensures)))
+    (says_append c.decimal-digits.ensures (says_append c.text-colon.ensures (says_append (rw c.fault_words.ensures at c.text-words.ensures) c.end.ensures)))

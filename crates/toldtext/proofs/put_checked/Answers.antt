@@ -10,6 +10,6 @@ use Rattle.toldtext.proofs.put_checked.Goals as goal
 pub returns : goal.returns
 returns c =
     let a = c.args in
-    let count = sym (entries_length a.c.blocks (placed a.c.entries a.frame.now)) in
+    let count = sym (entries_length _ (placed a.c.entries a.frame.now)) in
     says_append c.put_decimal-first.ensures
     (says_append (says_as (ap (λ (k : ℕ). in_decimal (ascii " blocks ") k) count) c.put_decimal-second.ensures) (rw c.placed.ensures at c.put_entries.ensures))

@@ -4,6 +4,3 @@ use Rattle.toldtext.proofs.put_told.Goals as goal
 
 pub returns-in-Connects : goal.returns-in-Connects
 returns-in-Connects c = rw c.in-Connects.is (says_none c.kept.ensures)
-
-pub returns-in-Nothing : goal.returns-in-Nothing
-returns-in-Nothing c = rw c.in-Nothing.is (says_none c.kept-in-Nothing.ensures)

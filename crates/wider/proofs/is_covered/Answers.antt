@@ -1,22 +1,14 @@
--- `wider::is_covered` meets its contract: the first area that is left covers the area, or those behind it decide.
-use Rattle.std.proofs.Common.{◌≡◌, length, sym, ◌∙◌, rules}
-use Rattle.map.specs.Place.{areas_most}
-use Rattle.map.proofs.Walk.{left_eight, left_none}
-use Rattle.wider.specs.Wider.{covered}
+-- `wider::is_covered` meets its contract: `any` says what `covered` says.
+use Rattle.std.proofs.Common.{rules, sym, ◌∙◌}
+use Rattle.std.proofs.lemmas.Iterator.{YieldsList-from_slice}
+use Rattle.std.proofs.lemmas.Iterator.Search.{any_from_yields_List}
+use borrow.Author.Tests.{tests}
+use Rattle.map.specs.declared.Area.{Area}
+use Rattle.wider.specs.Wider.{covers}
+use Rattle.wider.proofs.Any.{any_covers}
 use Rattle.wider.proofs.is_covered.Goals as goal
 
-pub returns-then-does_cover : goal.returns-then-does_cover
-unfolding covered
-returns-then-does_cover c =
-    let eight : length c.args.areas ≡ areas_most = search rules in
-    rw (c.loop-i.invariant, left_eight _ _ _ eight c.requires c.loop-i-test.true, sym c.does_cover.ensures ∙ c.if-does_cover.true)
-
-pub loop-i-preserved : goal.loop-i-preserved
-unfolding covered
-loop-i-preserved c =
-    let eight : length c.args.areas ≡ areas_most = search rules in
-    rw (c.loop-i.invariant, left_eight _ _ _ eight c.requires c.loop-i-test.true, sym c.does_cover.ensures ∙ c.if-does_cover.false)
-
 pub returns : goal.returns
-unfolding covered
-returns c = rw (c.loop-i.invariant, left_none _ _ _ c.loop-i-test.false)
+returns c =
+    any_from_yields_List (λ (a : Area). covers a c.args.narrow) _ _ _ c.any.ensures.ran (YieldsList-from_slice c.args.areas.now cc) (λ x b q k. search (rules, tests))
+    ∙ sym (any_covers _ _)

@@ -8,9 +8,9 @@ use Rattle.commands.proofs.session.set_buffer.Goals as goal
 pub returns-clause-value : goal.returns-clause-value
 returns-clause-value c =
     let e : c.front.result.now ≡ filling c.args.given.now = c.front.ensures ∙ filled c.args.given.now _ _ c.word16_at-length.ensures c.one-full.ensures in
-    ap (with_room c.args.s) (c.put.ensures.0 ∙ ap length e)
+    ap (with_room c.args.s) (c.put-room.ensures.0 ∙ ap length e)
 
 pub returns-clause-out_after : goal.returns-clause-out_after
 returns-clause-out_after c =
     let e : c.front.result.now ≡ filling c.args.given.now = c.front.ensures ∙ filled c.args.given.now _ _ c.word16_at-length.ensures c.one-full.ensures in
-    c.put.ensures.1 ∙ ap (laid c.args.out.now 0) e
+    c.put-room.ensures.1 ∙ ap (laid c.args.out.now 0) e
