@@ -29,9 +29,12 @@ pub struct Buffers<'a> {
 }
 
 impl<'a> Buffers<'a> {
-    // The buffers with a store of at most so many octets.
+    // The buffers with a store of at most so many octets, and the others as they are.
     pub fn with_store(self, octets: usize) -> Buffers<'a>
-        ensures { result.store.now ≡ take octets self.entry.store.now }
+        ensures store { result.store.now ≡ take octets self.entry.store.now }
+        ensures input { result.input.now ≡ self.entry.input.now }
+        ensures frames { result.frames.now ≡ self.entry.frames.now }
+        ensures text { result.text.now ≡ self.entry.text.now }
     {
         let Buffers {
             input,
