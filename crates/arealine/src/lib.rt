@@ -51,7 +51,7 @@ fn labelled(words: &mut Words, label: &[u8]) -> Result<u32, Fault>
     if !words::same(word, label) {
         return Err(Fault::AreaForm);
     }
-    words.number(u32::MAX, Fault::AreaForm, Fault::NumberLarge)
+    Ok(words.number(u32::MAX, Fault::AreaForm, Fault::NumberLarge)?)
 }
 
 // `at N`, where `at` is even: the store word that begins there.

@@ -44,11 +44,10 @@ parts_end due found k h =
     (λ more. sym (ap (λ (s : List ℕ). parting_from k (drop k due) s) (drop_of_length-le found (omega arith)) ∙ ended k (drop k due)))
 
 -- They agree where they part at the frame's end, and neither is longer.
-module _ (due line : List ℕ) {k : ℕ} (e : k ≡ parting_of due (octets_in line)) where
-  pub parted_before : (k ≡ length due → ⊥) → eqb k (length due) ≡ agrees due (octets_in line)
-  unfolding agrees
-  parted_before n = rw (sym e, ne_eqb k (length due) n) refl
+pub parted_before : (due found : List ℕ) {k : ℕ} → k ≡ parting_of due found → (k ≡ length due → ⊥) → eqb k (length due) ≡ agrees due found
+unfolding agrees
+parted_before due found {k = k} e n = rw (sym e, ne_eqb k (length due) n) refl
 
-  pub parted_behind : k ≡ length due → eqb (length due) (length line / 2) ≡ agrees due (octets_in line)
-  unfolding agrees
-  parted_behind h = rw (sym e, eq-eqb k (length due) h, octets_length line) refl
+pub parted_behind : (due line : List ℕ) {k : ℕ} → k ≡ parting_of due (octets_in line) → k ≡ length due → eqb (length due) (length line / 2) ≡ agrees due (octets_in line)
+unfolding agrees
+parted_behind due line {k = k} e h = rw (sym e, eq-eqb k (length due) h, octets_length line) refl

@@ -1,5 +1,5 @@
 -- Document 01, "Service data": the blocks of service 6.
-use Rattle.std.specs.Prelude.{◌≡◌, Bool, List, [], ◌∷◌, ℕ, zero, suc, ◌+◌, ◌*◌, min, length}
+use Rattle.std.specs.Prelude.{List, [], ◌∷◌, ℕ, zero, suc, ◌+◌, ◌*◌, min, length}
 use Rattle.octets.specs.Numbers.{octet, word16, word32}
 use Rattle.octets.specs.Copy.{between}
 use Rattle.blocks.specs.declared.Block.{Block}
@@ -46,10 +46,6 @@ blocks_of carried application = blocks_from carried application (block_count app
 -- The blocks that a walk has still to come to.
 abbrev pub blocks_left : Walk → List Block
 blocks_left walk = blocks_from walk.carried walk.application.now walk.left walk.place
-
--- Each answer that may be given on a block is that of a test.
-abbrev pub Computes : (Block → Bool → Type 0) → (Block → Bool) → Type 0
-Computes answers test = (b : Block) (r : Bool) → answers b r → r ≡ test b
 
 -- The words that a block carries, as octets.
 unfoldable pub words_of : List ℕ → Block → List ℕ

@@ -2,7 +2,7 @@
 ghost use Rattle.std.specs.Prelude.{◌≡◌, ◌<◌, Bool, map, length};
 ghost use Rattle.laws.specs.First.{first_wrong, wrong_number};
 ghost use Rattle.blocks.specs.declared.Block.{Block};
-ghost use Rattle.blocks.specs.Blocks.{block_at, block_behind, memory_id, block_count, blocks_of, blocks_left, words_of, Computes};
+ghost use Rattle.blocks.specs.Blocks.{block_at, block_behind, memory_id, block_count, blocks_of, blocks_left, words_of};
 
 use super::{Block, FIRST, HEADER};
 
@@ -64,12 +64,20 @@ impl Iterator for Walk<'_> {
     }
 }
 
+// A test of a block. It is a trait and no closure: of a closure a caller would have to show that it may be called.
+pub trait Test {
+    // What it answers.
+    ghost test: { Self → Block → Bool };
+
+    fn passes(&self, block: Block) -> bool
+        ensures { result ≡ test self.now block };
+}
+
 // The number, from 1, of the first block that fails a test.
-pub fn first_wrong<P: Fn(Block) -> bool>(carried: u8, application: &[u8], passes: P) -> Option<u16>
-    requires { P.IsAlwaysCallable passes }
-    ensures { (test : Block → Bool) → Computes (P.post passes) test → result ≡ wrong_number (first_wrong (map test (blocks_of carried application.now))) }
+pub fn first_wrong<T: Test>(carried: u8, application: &[u8], test: &T) -> Option<u16>
+    ensures { result ≡ wrong_number (first_wrong (map (T.test test.now) (blocks_of carried application.now))) }
 {
-    let others = blocks(carried, application).position(|block| !passes(block))?;
+    let others = blocks(carried, application).position(|block| !test.passes(block))?;
     Some(others as u16 + 1)
 }
 

@@ -1,16 +1,17 @@
 -- Laws of the text of octets, and of the octets of a text.
 -- Assumes nothing.
 use mathlib.Core.Path.{◌≡◌, refl, sym, ap, ◌∙◌}
-use mathlib.Core.List.{List, [], ◌∷◌}
-use Prim.Native.Nat.{ℕ, zero, suc, ◌+◌, ◌/◌, ◌≤◌, ◌<◌}
+use mathlib.Core.List.{List, [], ◌∷◌, ◌++◌}
+use Prim.Native.Nat.{ℕ, zero, suc, ◌+◌, ◌*◌, ◌/◌, ◌≤◌, ◌<◌}
 use native.Mathlib.Omega.{arith}
-use lib.ListN.{length, get_or, set, take, drop, length-set, drop_of_length-le}
+use lib.ListN.{length, get_or, set, take, drop, length-set, length-take, take-append-drop, drop_of_length-le}
 use Rattle.std.proofs.lemmas.List.{get_or-take}
 use Rattle.std.specs.Simd.{first_chunks}
 use Rattle.laws.proofs.Lists.{drop_next}
 use Rattle.octets.specs.Copy.{laid}
-use Rattle.octets.proofs.Laid.{laid_past, laid_next, laid_front}
+use Rattle.octets.proofs.Laid.{laid-append, laid_past, laid_next, laid_front}
 use Rattle.characters.specs.Digits.{digit_of, text_of, octet_of, octets_in}
+use Rattle.characters.proofs.Digits.{text_length}
 
 -- ---- the text of octets
 
@@ -37,6 +38,31 @@ laid_text_full d at s i h full =
     let one : List ℕ = set d at (digit_of (x / 16)) in
     sym (laid_past (set one (at + 1) (digit_of x)) (at + 2) (text_of (drop (i + 1) s)) (omega (arith, length-set one (at + 1) (digit_of x), length-set d at (digit_of (x / 16)))))
     ∙ laid_text_next d at s i h
+
+-- Where less than two characters have room, the first digit of an octet is all that is laid.
+pub laid_text_edge : (d : List ℕ) (at : ℕ) (s : List ℕ) (i : ℕ) → i < length s → length d ≤ at + 1
+    → set d at (digit_of (get_or s i 0 / 16)) ≡ laid d at (text_of (drop i s))
+unfolding laid text_of
+laid_text_edge d at s i h full =
+    let x : ℕ = get_or s i 0 in
+    sym (ap (λ (r : List ℕ). laid d at (text_of r)) (drop_next s i h)
+    ∙ laid_past (set d at (digit_of (x / 16))) (at + 1) (digit_of x ∷ text_of (drop (i + 1) s)) (omega (arith, length-set d at (digit_of (x / 16)))))
+
+-- The text of some octets, and of those behind them.
+pub text_append : (s t : List ℕ) → text_of (s ++ t) ≡ text_of s ++ text_of t
+unfolding text_of
+text_append [] t = refl
+text_append (x ∷ s) t = ap (λ (r : List ℕ). digit_of (x / 16) ∷ digit_of x ∷ r) (text_append s t)
+
+-- The text of the first octets laid, and behind it that of the others.
+pub laid_text_split : (d : List ℕ) (at n : ℕ) (s : List ℕ) → n ≤ length s
+    → laid (laid d at (text_of (take n s))) (at + 2 * n) (text_of (drop n s)) ≡ laid d at (text_of s)
+laid_text_split d at n s h =
+    let front : List ℕ = text_of (take n s) in
+    let long : length front ≡ 2 * n = omega (arith, text_length (take n s), length-take n s) in
+    ap (λ (k : ℕ). laid (laid d at front) (at + k) (text_of (drop n s))) (sym long)
+    ∙ laid-append d at front (text_of (drop n s))
+    ∙ ap (λ (r : List ℕ). laid d at r) (sym (text_append (take n s) (drop n s)) ∙ ap text_of (take-append-drop n s))
 
 -- ---- the octets of a text
 

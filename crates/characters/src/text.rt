@@ -1,5 +1,5 @@
 // The text of octets written into a buffer, and the octets of a text.
-ghost use Rattle.std.specs.Prelude.{◌≡◌, ◌+◌, ◌/◌, ◌<◌, length, set};
+ghost use Rattle.std.specs.Prelude.{◌≡◌, ◌+◌, ◌-◌, ◌*◌, ◌/◌, ◌<◌, ◌≤◌, length, set};
 ghost use Rattle.octets.specs.Copy.{laid};
 ghost use Rattle.characters.specs.Digits.{digit_of, text_of, upper_text, all_digits_of, bad_place, octets_in};
 
@@ -13,31 +13,39 @@ pub fn put_character(text: &mut [u8], at: usize, c: u8)
     }
 }
 
-// Writes the two digits of an octet; what would stand past the end is dropped.
+// Writes the two digits of an octet, which have room.
 fn put_octet(text: &mut [u8], at: usize, x: u8)
-    requires { at < length text.old }
+    requires { at + 1 < length text.old }
     ensures { text.new ≡ set (set text.old at (digit_of (x / 16))) (at + 1) (digit_of x) }
 {
-    put_character(text, at, crate::digit(x / 16));
-    put_character(text, at + 1, crate::digit(x));
+    text[at] = crate::digit(x / 16);
+    text[at + 1] = crate::digit(x);
 }
 
-// Writes the text of octets from a place on; what would stand past the end is dropped.
-// It ends at the text's end: places that stop at the greatest number make it ten times slower.
-#[tactic(auto, using(octets::proofs::Laid::laid_past, crate::proofs::Texts::laid_text_next, crate::proofs::Texts::laid_text_full, crate::proofs::Texts::laid_text_end))]
-pub fn put_text(text: &mut [u8], at: usize, octets: &[u8])
+// Writes the text of octets from a place on, which has room.
+#[tactic(auto, using(crate::proofs::Texts::laid_text_next, crate::proofs::Texts::laid_text_end))]
+fn put_whole(text: &mut [u8], at: usize, octets: &[u8])
+    requires { 2 * length octets.now ≤ length text.old - at }
     ensures { text.new ≡ laid text.old at (text_of octets.now) }
 {
     let mut place = at;
     for x in octets {
-        if text.len() <= place {
-            return;
-        }
         put_octet(text, place, *x);
-        if text.len() - place < 2 {
-            return;
-        }
         place += 2;
+    }
+}
+
+// Writes the text of octets from a place on; what would stand past the end is dropped.
+// The octets that have room whole come first, in a loop that does not ask for the text's end: one that asks at each octet takes up to twice as long, and places that stop at the greatest number ten times.
+#[tactic(auto, using(octets::proofs::Laid::laid_past, crate::proofs::Texts::laid_text_end, crate::proofs::Texts::laid_text_edge, crate::proofs::Texts::laid_text_split))]
+pub fn put_text(text: &mut [u8], at: usize, octets: &[u8])
+    ensures { text.new ≡ laid text.old at (text_of octets.now) }
+{
+    let whole = octets.len().min(text.len().saturating_sub(at) / 2);
+    put_whole(text, at, &octets[..whole]);
+    if whole < octets.len() {
+        // Less than two characters have room behind them.
+        put_character(text, at + 2 * whole, crate::digit(octets[whole] / 16));
     }
 }
 

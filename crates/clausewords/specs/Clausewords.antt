@@ -1,5 +1,5 @@
 -- docs/UNITS.md, "A unit that is not sound": the words for a clause of soundness that fails.
-use Rattle.std.specs.Prelude.{List, [], ◌∷◌, ◌++◌, ℕ}
+use Rattle.std.specs.Prelude.{List, [], ◌∷◌, ◌++◌, ℕ, Result, Ok, Err}
 use Rattle.lines.specs.Lines.{newline}
 use Rattle.words.specs.Ascii.{ascii}
 use Rattle.numerals.specs.Numbers.{decimal_of}
@@ -27,3 +27,8 @@ clause_words (Shared i j octet) = of_areas i j (ascii " share octet " ++ decimal
 
 unfoldable pub clause_line : Clause → List ℕ
 clause_line c = clause_words c ++ newline ∷ []
+
+-- The same line where none may fail: then nothing stands in it.
+abbrev pub clause_told : Result Unit Clause → List ℕ
+clause_told (Ok _) = newline ∷ []
+clause_told (Err c) = clause_line c

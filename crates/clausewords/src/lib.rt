@@ -2,16 +2,21 @@
 #![tactic(auto)]
 
 ghost use Rattle.saying.specs.Text.{SaysBy};
-ghost use Rattle.clausewords.specs.Clausewords.{of_area, of_areas, clause_words, clause_line};
+ghost use Rattle.clausewords.specs.Clausewords.{of_area, of_areas, clause_words, clause_told};
 
 use clauses::Clause;
 
-// The line that tells which clause of soundness fails.
-pub fn clause_line(c: Clause, text: &mut [u8], at: usize) -> usize
-    ensures { SaysBy (clause_line c) at text result }
+// The line that tells which clause of soundness fails, if one does.
+pub fn clause_line(c: Result<(), Clause>, text: &mut [u8], at: usize) -> usize
+    ensures { SaysBy (clause_told c) at text result }
 {
-    let words = clause_words(c, text, at);
-    saying::end(text, words)
+    match c {
+        Ok(()) => saying::end(text, at),
+        Err(clause) => {
+            let words = clause_words(clause, text, at);
+            saying::end(text, words)
+        }
+    }
 }
 
 // What is said of the clause of soundness that fails.

@@ -38,6 +38,6 @@ pub fn conclude(d: Desk, text: &mut [u8], at: usize) -> Done
     let behind = saying::text(text, at, b"refused 71\n");
     Done {
         at: behind,
-        desk: desk::halting(d, Halt::NoPacket),
+        desk: desk::halting(d, Some(Halt::NoPacket)),
     }
 }

@@ -131,7 +131,7 @@ impl<O: Write + Drop, E: Write + Drop> Console<O, E> {
     }
 
     // Says something on standard error; where nobody can be told that it fails, nothing is done about it.
-    fn say(&mut self, what: &[u8])
+    pub fn say(&mut self, what: &[u8])
         ensures { self.new ≡ self.old }
     {
         let _ = self.err.write_all(what);

@@ -4,7 +4,7 @@
 ghost use Rattle.std.specs.Prelude.{◌≡◌, ◌+◌, ◌*◌, ◌≤◌};
 ghost use Rattle.map.specs.Place.{word_octets};
 ghost use Rattle.contents.specs.Kinds.{kind_of};
-ghost use Rattle.contents.specs.Source.{dump_head_size, entry_at, lengths_right_of, dump_formed, check_formed, formed, echo_in, failed_in, part_behind, dumped_in, checked_in, contents_in};
+ghost use Rattle.contents.specs.Source.{dump_head_size, entry_at, lengths_right_of, dump_formed, check_formed, formed_if, echo_in, failed_in, part_behind, dumped_in, checked_in, contents_if};
 
 use octets::copy::Span;
 
@@ -160,17 +160,18 @@ fn check_formed(source: &[u8]) -> bool
         && lengths_right(blocks, octets::copy::behind(source, blocks::FIRST))
 }
 
-// Whether source data is that of a kind of report.
-pub fn formed(kind: Kind, source: &[u8]) -> bool
-    ensures { result ≡ formed kind source.now }
+// Whether source data is that of a kind of report, if there is one.
+pub fn formed(kind: Option<Kind>, source: &[u8]) -> bool
+    ensures { result ≡ formed_if kind source.now }
 {
     match kind {
-        Kind::Acceptance => source.len() == ECHO,
-        Kind::Failure => source.len() == FAILURE,
-        Kind::Completion => source.len() == ECHO,
-        Kind::Dump => dump_formed(source),
-        Kind::Check => check_formed(source),
-        Kind::Connection => source.is_empty(),
+        Some(Kind::Acceptance) => source.len() == ECHO,
+        Some(Kind::Failure) => source.len() == FAILURE,
+        Some(Kind::Completion) => source.len() == ECHO,
+        Some(Kind::Dump) => dump_formed(source),
+        Some(Kind::Check) => check_formed(source),
+        Some(Kind::Connection) => source.is_empty(),
+        None => false,
     }
 }
 
@@ -229,16 +230,17 @@ fn checked_in(source: &[u8]) -> Checked
     }
 }
 
-// What source data of a kind of report tells.
-pub fn read(kind: Kind, source: &[u8]) -> Contents
-    ensures { result ≡ contents_in kind source.now }
+// What source data of a kind of report tells, if there is one.
+pub fn read(kind: Option<Kind>, source: &[u8]) -> Option<Contents>
+    ensures { result ≡ contents_if kind source.now }
 {
-    match kind {
+    let told = match kind? {
         Kind::Acceptance => Contents::Accepts(echo_in(source)),
         Kind::Failure => Contents::Refuses(failed_in(source)),
         Kind::Completion => Contents::Completes(echo_in(source)),
         Kind::Dump => Contents::Dumps(dumped_in(source)),
         Kind::Check => Contents::Checks(checked_in(source)),
         Kind::Connection => Contents::Connects,
-    }
+    };
+    Some(told)
 }

@@ -1,5 +1,5 @@
 -- What goes from line to line in a program over lines: its desk, the store and the output buffer.
-use Rattle.std.specs.Prelude.{ℕ, Bool, true, List, None, Some, is_some}
+use Rattle.std.specs.Prelude.{Option, ℕ, Bool, true, List, None, Some, is_some}
 use Rattle.std.specs.Borrow.{MutBor}
 use Rattle.map.specs.declared.Profile.{Profile}
 use Rattle.counts.specs.Counts.{no_counts}
@@ -50,8 +50,12 @@ with_group d group = record { draft = d.draft; state = d.state; number = d.numbe
 abbrev pub counted : Desk → Desk
 counted d = record { draft = d.draft; state = d.state; number = next_number d.number; group = d.group; halt = d.halt }
 
+-- It with a reason to stop, or with none, and with one.
+abbrev pub with_halt : Desk → Option Halt → Desk
+with_halt d halt = record { draft = d.draft; state = d.state; number = d.number; group = d.group; halt = halt }
+
 abbrev pub halting : Desk → Halt → Desk
-halting d halt = record { draft = d.draft; state = d.state; number = d.number; group = d.group; halt = Some halt }
+halting d halt = with_halt d (Some halt)
 
 -- Whether the program has stopped.
 abbrev pub is_halted : Desk → Bool

@@ -3,7 +3,7 @@
 
 ghost use Rattle.std.specs.Prelude.{◌≡◌, ◌+◌, min, length};
 ghost use Rattle.desk.specs.Place.{desk_for, line_draft, with_draft, with_state, with_group, is_halted};
-ghost use Rattle.desk.specs.Place.{counted as Counted, halting as Halting};
+ghost use Rattle.desk.specs.Place.{counted as Counted, with_halt};
 
 use decide::State;
 use grouping::Group;
@@ -105,14 +105,11 @@ pub fn moved(d: Desk, group: Group) -> Desk
     Desk { number, group, ..d }
 }
 
-// The desk with a reason to stop.
-pub fn halting(d: Desk, halt: Halt) -> Desk
-    ensures { result ≡ Halting d halt }
+// The desk with a reason to stop, or with none: then it goes on.
+pub fn halting(d: Desk, halt: Option<Halt>) -> Desk
+    ensures { result ≡ with_halt d halt }
 {
-    Desk {
-        halt: Some(halt),
-        ..d
-    }
+    Desk { halt, ..d }
 }
 
 // Nothing is said.

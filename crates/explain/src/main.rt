@@ -29,8 +29,9 @@ fn explain<O: Write + Drop, E: Write + Drop>(
     mut buffers: Buffers<'_>,
 ) -> Result<Desk, Ended> {
     let mut files = console.optional_unit(rt, b": usage: explain [--unit UNIT] [FILE]\n")?;
-    let desk = match files.unit {
-        Some(mut unit) => opening::open(console, &mut unit, Words::Aside, &mut buffers)?,
+    // The unit's file stays open behind its end, as it does in `pack` and `judge`: where standard input is closed, it has that number, and there is nothing more to read.
+    let desk = match &mut files.unit {
+        Some(unit) => opening::open(console, unit, Words::Aside, &mut buffers)?,
         None => desk::line_start(),
     };
     buffers.run(console, Task::Explain, &mut files.input, desk)

@@ -35,7 +35,7 @@ pub fn put_frame(frame: &[u8], text: &mut [u8], at: usize) -> usize
         return put_refused(reading.verdict, text, at);
     };
     let first = put_stamp(reading.stamp, text, at);
-    let second = toldtext::put_told(frame, told, text, first);
+    let second = toldtext::put_told(frame, Some(told), text, first);
     saying::end(text, second)
 }
 

@@ -18,6 +18,8 @@ use Rattle.hexline.proofs.Serving.{served_said}
 use Rattle.packline.specs.Record.{halt_of}
 use Rattle.packline.specs.declared.Halt.TheVariants.{Differs as halt_differs}
 use Rattle.beside.specs.Beside.{agrees}
+use Rattle.spelling.specs.Spelling.{spells_frame}
+use Rattle.spelling.proofs.Spelled.{spells_packet, spells_agrees}
 use Rattle.differing.specs.Differing.{differs_text}
 use Rattle.grouping.specs.declared.Group.{Group}
 use Rattle.grouping.specs.Group.{due_at, opened}
@@ -71,6 +73,13 @@ module _ (m : Place) (line : List ℕ) where
 -- ---- inside of a group
 
 module _ (g : Group) (out line frame : List ℕ) (e : frame ≡ due_at g out) where
+  -- A line that spells the frame due agrees with it.
+  pub found_spelled : spells_frame frame line ≡ true → Agrees ≡ found_by g out line
+  unfolding found_by
+  found_spelled t =
+      let a : agrees (due_at g out) (octets_in line) ≡ true = ap (λ (f : List ℕ). agrees f (octets_in line)) (sym e) ∙ spells_agrees frame line t in
+      sym (rw (spells_packet frame line t, a) refl)
+
   -- A packet line of which the octets agree with the frame due agrees, and any other differs.
   pub found_as : {r : Bool} (found : Found) → cond r Agrees Differs ≡ found → is_packet line ≡ true → agrees frame (octets_in line) ≡ r → found ≡ found_by g out line
   unfolding found_by

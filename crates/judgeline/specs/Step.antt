@@ -1,5 +1,5 @@
 -- docs/JUDGE.md: what the judge says to a line of a record outside of a group, and inside of one, and what goes on from it. The line is counted already.
-use Rattle.std.specs.Prelude.{cond, List, [], ◌∷◌, ◌++◌, ℕ, length}
+use Rattle.std.specs.Prelude.{cond, List, [], ◌∷◌, ◌++◌, ℕ, length, Option}
 use Rattle.characters.specs.Digits.{octets_in}
 use Rattle.packetline.specs.Packet.{is_packet}
 use Rattle.terminal.specs.Outcome.{octets_due}
@@ -7,7 +7,7 @@ use Rattle.hexline.specs.Line.{packet_input, packet_in, packet_after}
 use Rattle.packline.specs.declared.Halt.{Halt}
 use Rattle.packline.specs.declared.Halt.TheVariants.{Differs as halt_differs}
 use Rattle.packline.specs.Record.{halt_of, refused_at}
-use Rattle.telling.specs.Telling.{halt_line}
+use Rattle.telling.specs.Telling.{halt_line, halt_told}
 use Rattle.beside.specs.Beside.{agrees}
 use Rattle.differing.specs.Differing.{differs_text}
 use Rattle.grouping.specs.declared.Group.{Group}
@@ -20,6 +20,10 @@ use Rattle.judgeline.specs.declared.Found.TheVariants.{Agrees, Differs, Bad}
 -- `refused 70` with the number of the line, and why.
 abbrev pub bad_says : ℕ → Halt → List ℕ
 bad_says number halt = refused_at number ++ halt_line halt
+
+-- The same where there may be no reason.
+abbrev pub bad_told : ℕ → Option Halt → List ℕ
+bad_told number halt = refused_at number ++ halt_told halt
 
 -- A line outside of a group: an empty one is passed over, and a packet line is answered by the reference.
 abbrev pub served_at : Place → List ℕ → Place

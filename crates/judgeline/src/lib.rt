@@ -4,9 +4,9 @@
 ghost use Rattle.std.specs.Prelude.{◌≡◌};
 ghost use Rattle.saying.specs.Text.{SaysBy};
 ghost use Rattle.differing.specs.Differing.{differs_text};
-ghost use Rattle.desk.specs.Place.{place_of, halting};
+ghost use Rattle.desk.specs.Place.{place_of, with_halt, halting};
 ghost use Rattle.desk.specs.Did.{DidBy};
-ghost use Rattle.judgeline.specs.Step.{bad_says, served_at, outside_says, outside_becomes, found_by, behind_line, found_says, found_desk};
+ghost use Rattle.judgeline.specs.Step.{bad_told, served_at, outside_says, outside_becomes, found_by, behind_line, found_says, found_desk};
 
 use desk::{Desk, Done};
 use grouping::Group;
@@ -20,10 +20,10 @@ pub enum Found {
     Bad,
 }
 
-// `refused 70`, the number of the line and why, and the judge stops.
-pub fn refused(d: Desk, halt: Halt, text: &mut [u8], at: usize) -> Done
-    ensures says_by { SaysBy (bad_says d.number halt) at text result.at }
-    ensures desk_value { result.desk ≡ halting d halt }
+// `refused 70`, the number of the line and why, if there is a reason: then the judge stops.
+pub fn refused(d: Desk, halt: Option<Halt>, text: &mut [u8], at: usize) -> Done
+    ensures says_by { SaysBy (bad_told d.number halt) at text result.at }
+    ensures desk_value { result.desk ≡ with_halt d halt }
 {
     let first = packline::put_refused(d.number, text, at);
     let behind = telling::halt_line(halt, text, first);
@@ -60,7 +60,7 @@ pub fn outside(
     if packetline::is_packet(line) {
         return desk::nothing(serve(d, line, store, out), text, at);
     }
-    refused(d, packline::why(line), text, at)
+    refused(d, Some(packline::why(line)), text, at)
 }
 
 // A line inside of a group beside the frame due. Most lines spell it; of the others it is asked whether they are packet lines, and then octet by octet.
@@ -99,7 +99,7 @@ fn differs(d: Desk, frame: &[u8], line: &[u8], text: &mut [u8], at: usize) -> Do
     let behind = differing::put_differs(d.number, d.group.packet, frame, line, text, at);
     Done {
         at: behind,
-        desk: desk::halting(d, Halt::Differs),
+        desk: desk::halting(d, Some(Halt::Differs)),
     }
 }
 
@@ -113,6 +113,6 @@ pub fn inside(d: Desk, found: Found, line: &[u8], out: &[u8], text: &mut [u8], a
     match found {
         Found::Agrees => desk::nothing(desk::with_group(d, behind(group, line, out)), text, at),
         Found::Differs => differs(d, grouping::due(group, out), line, text, at),
-        Found::Bad => refused(d, packline::why(line), text, at),
+        Found::Bad => refused(d, Some(packline::why(line)), text, at),
     }
 }

@@ -52,7 +52,7 @@ pub fn judge_long(d: Desk, text: &mut [u8], at: usize) -> Done
     if desk::is_halted(d) {
         return desk::nothing(d, text, at);
     }
-    judgeline::refused(desk::counted(d), Halt::Long, text, at)
+    judgeline::refused(desk::counted(d), Some(Halt::Long), text, at)
 }
 
 // The empty line that the end of the input serves as. It is answered as any line is, but apart from them: a function that has one caller is laid into it, and so a line costs fewer copies of the desk.

@@ -6,3 +6,4 @@ pub mod Turns
 pub mod Streams
 pub mod Whole
 pub mod Walks
+pub mod Newlines

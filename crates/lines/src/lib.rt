@@ -70,10 +70,16 @@ pub fn piece(input: &[u8], from: usize, count: usize) -> &[u8]
 }
 
 // The place of the first newline of some characters, from 0.
+// A loop: the library's `position` says the same, and takes seven instructions a character in place of five.
 fn newline_in(characters: &[u8]) -> Option<usize>
     ensures { result ≡ position (λ c. c == newline) characters.now }
 {
-    characters.iter().position(|c| *c == NEWLINE)
+    for (place, c) in characters.iter().enumerate() {
+        if *c == NEWLINE {
+            return Some(place);
+        }
+    }
+    None
 }
 
 // The first whole piece of the input from a place on, which may go on: of at most so many characters, up to a newline, or up to the character that has no room in it.

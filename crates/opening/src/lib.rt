@@ -82,7 +82,7 @@ fn put_halt(number: u64, halt: Halt, text: &mut [u8]) -> usize
     ensures { SaysBy (bad_unit number (Some halt)) 0 text result }
 {
     match halt {
-        Halt::Unit(fault) => telling::unit_line(number, fault, text, 0),
+        Halt::Unit(fault) => telling::unit_line(number, Some(fault), text, 0),
         Halt::Long | Halt::Character { .. } | Halt::Odd | Halt::Differs | Halt::NoPacket => {
             saying::kept(text, 0)
         }
@@ -98,14 +98,14 @@ fn tell_clause<O: Write + Drop, E: Write + Drop>(
 ) -> Result<(), Ended> {
     let at = match words {
         Words::Aside => {
-            let at = clausewords::clause_line(clause, text, 0);
+            let at = clausewords::clause_line(Err(clause), text, 0);
             console.tell(lines::front(text, at));
             telling::unsound_line(text, 0)
         }
         Words::Behind => {
             console.mark(Mark::Failed);
             let at = telling::unsound_line(text, 0);
-            clausewords::clause_line(clause, text, at)
+            clausewords::clause_line(Err(clause), text, at)
         }
     };
     console.write(lines::front(text, at))

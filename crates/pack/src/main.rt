@@ -32,7 +32,7 @@ fn pack<O: Write + Drop, E: Write + Drop>(
     let mut buffers = buffers.with_store(desk.draft.stored);
     let last = buffers.run(console, Task::Pack, &mut files.input, desk)?;
     if let Some(halt) = last.halt {
-        let at = telling::halt_line(halt, buffers.text, 0);
+        let at = telling::halt_line(Some(halt), buffers.text, 0);
         console.tell(lines::front(buffers.text, at));
     }
     Ok(())

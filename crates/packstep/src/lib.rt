@@ -37,7 +37,7 @@ fn refused(d: Desk, halt: Halt, text: &mut [u8], at: usize) -> Done
     let behind = packline::put_refused(d.number, text, at);
     Done {
         at: behind,
-        desk: desk::halting(d, halt),
+        desk: desk::halting(d, Some(halt)),
     }
 }
 

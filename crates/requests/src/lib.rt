@@ -4,8 +4,10 @@
 ghost use Rattle.std.specs.Prelude.{◌≡◌};
 ghost use Rattle.laws.specs.First.{wrong_number};
 ghost use Rattle.blocks.specs.Blocks.{blocks_of};
-ghost use Rattle.requests.specs.Request.{serves, asked_for, memory_asked, offers, right_for, carried_by, most_words, outside_of};
+ghost use Rattle.requests.specs.Request.{serves, asked_for, memory_asked, offers, right_for, carried_by, most_words, inside_of, outside_of};
 
+use blocks::Block;
+use blocks::reading::Test;
 use map::{Area, Flags, Rights};
 
 // What a TC of service 6 asks for: (6,2), (6,5) or (6,9).
@@ -121,7 +123,19 @@ pub fn most_words(action: Action) -> u16
 pub fn first_outside(area: Area, carried: u8, application: &[u8]) -> Option<u16>
     ensures { result ≡ wrong_number (outside_of area (blocks_of carried application.now)) }
 {
-    blocks::reading::first_wrong(carried, application, |block| {
-        map::place::lies_inside(area, block.start, u32::from(block.words))
-    })
+    blocks::reading::first_wrong(carried, application, &Inside { area })
+}
+
+// Whether a block lies wholly inside an area.
+#[derive(Clone, Copy)]
+struct Inside {
+    area: Area,
+}
+
+impl Test for Inside {
+    ghost test = { λ inside block. inside_of inside.area block };
+
+    fn passes(&self, block: Block) -> bool {
+        map::place::lies_inside(self.area, block.start, u32::from(block.words))
+    }
 }

@@ -1,3 +1,4 @@
 pub mod Steps
 pub mod Bound
 pub mod Octets
+pub mod Wrongs

@@ -1,3 +1,4 @@
 pub mod Faults
+pub mod Wrongs
 pub mod Stating
 pub mod Examples

@@ -1,5 +1,5 @@
 -- docs/UNITS.md, "Items": what the words behind an item state: a number, services or rights, octets.
-use Rattle.std.specs.Prelude.{Bool, true, false, cond, Option, Some, None, Result, Ok, Err, List, [], ◌∷◌, map, ℕ, ◌+◌, ◌/◌, ◌%◌, length, drop, eqb, leb}
+use Rattle.std.specs.Prelude.{Bool, true, false, cond, not, ◌&&◌, Option, Some, None, Result, Ok, Err, List, [], ◌∷◌, map, ℕ, ◌+◌, ◌/◌, ◌%◌, length, drop, eqb, leb}
 use Rattle.laws.specs.Fold.{joined}
 use Rattle.characters.specs.Digits.{all_digits_of, octets_in}
 use Rattle.map.specs.declared.Flags.{Flags}
@@ -37,6 +37,15 @@ unfoldable pub number_stated : ℕ → Fault → Fault → List (List ℕ) → R
 number_stated most missing large [] = Err missing
 number_stated most missing large (w ∷ ws) = bounded most large (numeral_of w)
 
+-- The value of a number, and of what the first of some words states, also where it is larger than it may be; 0 where there is none.
+abbrev pub numeral_value : Result ℕ NumeralError → ℕ
+numeral_value (Ok x) = x
+numeral_value (Err e) = 0
+
+unfoldable pub number_value : List (List ℕ) → ℕ
+number_value [] = 0
+number_value (w ∷ ws) = numeral_value (numeral_of w)
+
 -- Which flag a word names.
 unfoldable pub flag_named : List ℕ → Option Flag
 flag_named w =
@@ -73,6 +82,20 @@ flags_from known unknown twice f [] = Ok f
 flags_from known unknown twice f (w ∷ ws) =
     and_then (flag_added known unknown twice f (flag_named w)) (λ g. flags_from known unknown twice g ws)
 
+-- Whether a word names one more of those that are known, which is not set yet; and the flags with the one that it names.
+abbrev pub is_more : Flags → Flags → Option Flag → Bool
+is_more known f None = false
+is_more known f (Some k) = has_flag known k && not (has_flag f k)
+
+abbrev pub with_named : Flags → Option Flag → Flags
+with_named f None = f
+with_named f (Some k) = with_flag f k
+
+-- The flags that the words before the first one at fault name, behind some that are set.
+unfoldable pub flags_told : Flags → Flags → List (List ℕ) → Flags
+flags_told known f [] = f
+flags_told known f (w ∷ ws) = cond (is_more known f (flag_named w)) (flags_told known (with_named f (flag_named w)) ws) f
+
 -- How many octets the words state behind so many: two digits each.
 unfoldable pub digits_from : ℕ → List (List ℕ) → Result ℕ Fault
 digits_from n [] = Ok n
@@ -80,6 +103,11 @@ digits_from n (w ∷ ws) =
     cond (all_digits_of w)
     (cond (eqb (length w % 2) 0) (digits_from (n + length w / 2) ws) (Err PutOdd))
     (Err PutDigits)
+
+-- How many octets the words before the first one at fault state, behind so many.
+unfoldable pub digits_told : ℕ → List (List ℕ) → ℕ
+digits_told n [] = n
+digits_told n (w ∷ ws) = cond (all_digits_of w && eqb (length w % 2) 0) (digits_told (n + length w / 2) ws) n
 
 -- Those octets.
 abbrev pub octets_stated : List (List ℕ) → List ℕ

@@ -2,6 +2,7 @@
 
 ghost use Rattle.std.specs.Prelude.{◌≡◌};
 ghost use Rattle.stating.specs.Faults.{numeral_fault};
+ghost use Rattle.stating.specs.Wrongs.{wrong};
 
 use numerals::NumeralError;
 
@@ -44,5 +45,39 @@ impl From<NumeralError> for Fault {
             NumeralError::Large => Fault::NumberLarge,
             NumeralError::Bad => Fault::NumberForm,
         }
+    }
+}
+
+// What is wrong with words, and what they state up to there.
+#[derive(Clone, Copy)]
+pub struct Wrong<T> {
+    pub fault: Fault,
+    pub told: T,
+}
+
+impl<T> Wrong<T> {
+    // This is wrong, and up to there that is stated.
+    pub fn new(fault: Fault, told: T) -> Wrong<T>
+        ensures { result ≡ wrong fault told }
+    {
+        Wrong { fault, told }
+    }
+}
+
+// A word that is no number states 0.
+impl From<NumeralError> for Wrong<u32> {
+    ghost from_gives = { λ e w. w ≡ wrong (numeral_fault e) 0 };
+
+    fn from(e: NumeralError) -> Wrong<u32> {
+        Wrong::new(Fault::from(e), 0)
+    }
+}
+
+// What is wrong alone.
+impl<T: Copy> From<Wrong<T>> for Fault {
+    ghost from_gives = { λ w f. f ≡ w.fault };
+
+    fn from(w: Wrong<T>) -> Fault {
+        w.fault
     }
 }

@@ -5,9 +5,10 @@ ghost use Rattle.std.specs.Prelude.{◌≡◌, drop};
 ghost use Rattle.std.specs.Iterator.{YieldsFirstRef, item_count};
 ghost use Rattle.octets.specs.Copy.{laid};
 ghost use Rattle.words.specs.Words.{words_of};
-ghost use Rattle.stating.specs.Stating.{words_left, is_some, number_stated, flag_named, has_flag, with_flag, no_flags, flag_added, flags_from, digits_from, octets_stated};
+ghost use Rattle.stating.specs.Stating.{words_left, is_some, number_stated, number_value, flag_named, has_flag, with_flag, no_flags, flag_added, flags_from, flags_told, digits_from, digits_told, octets_stated};
+ghost use Rattle.stating.specs.Wrongs.{plain, told_by};
 
-use fault::Fault;
+use fault::{Fault, Wrong};
 use map::Flags;
 
 pub mod fault; // fault.rt: what is wrong with a line
@@ -70,44 +71,47 @@ impl<'a> Words<'a> {
         ahead.next().is_some()
     }
 
-    // The number that the next word states: it may be missing, or too large.
-    #[tactic(auto, unfolding(crate::specs::Stating::number_stated))]
-    pub fn number(&mut self, most: u32, missing: Fault, large: Fault) -> Result<u32, Fault>
-        ensures value { result ≡ number_stated most missing large (words_left self.old) }
+    // The number that the next word states: it may be missing, or too large. What is told beside a fault is its value, or 0.
+    #[tactic(auto, unfolding(crate::specs::Stating::number_stated, crate::specs::Stating::number_value))]
+    pub fn number(&mut self, most: u32, missing: Fault, large: Fault) -> Result<u32, Wrong<u32>>
+        ensures value { plain result ≡ number_stated most missing large (words_left self.old) }
+        ensures told { told_by result ≡ number_value (words_left self.old) }
         ensures behind { words_left self.new ≡ drop 1 (words_left self.old) }
     {
-        let word = self.next().ok_or(missing)?;
+        let word = self.next().ok_or(Wrong::new(missing, 0))?;
         let value = numerals::number(word)?;
         if most < value {
-            return Err(large);
+            return Err(Wrong::new(large, value));
         }
         Ok(value)
     }
 
-    // The flags that the words name: of those that are known, each at most once, in any order.
-    #[tactic(auto, unfolding(crate::specs::Stating::flags_from))]
-    pub fn flags(self, known: Flags, unknown: Fault, twice: Fault) -> Result<Flags, Fault>
-        ensures { result ≡ flags_from known unknown twice no_flags (words_left self.entry) }
+    // The flags that the words name: of those that are known, each at most once, in any order. Those before the word at fault are told beside it.
+    #[tactic(auto, unfolding(crate::specs::Stating::flags_from, crate::specs::Stating::flags_told))]
+    pub fn flags(self, known: Flags, unknown: Fault, twice: Fault) -> Result<Flags, Wrong<Flags>>
+        ensures value { plain result ≡ flags_from known unknown twice no_flags (words_left self.entry) }
+        ensures told { told_by result ≡ flags_told known no_flags (words_left self.entry) }
     {
         let mut f = NO_FLAGS;
         for word in self {
-            f = flag_added(f, word, known, unknown, twice)?;
+            f = flag_added(f, word, known, unknown, twice).map_err(|fault| Wrong::new(fault, f))?;
         }
         Ok(f)
     }
 
-    // How many octets the words state, two digits each.
-    #[tactic(auto, using(crate::proofs::Steps::octets_fit, crate::proofs::Steps::count_next), unfolding(crate::specs::Stating::digits_from))]
-    pub fn digits(self) -> Result<usize, Fault>
-        ensures { result ≡ digits_from 0 (words_left self.entry) }
+    // How many octets the words state, two digits each. Those before the word at fault are told beside it.
+    #[tactic(auto, using(crate::proofs::Steps::octets_fit, crate::proofs::Steps::count_next), unfolding(crate::specs::Stating::digits_from, crate::specs::Stating::digits_told))]
+    pub fn digits(self) -> Result<usize, Wrong<usize>>
+        ensures value { plain result ≡ digits_from 0 (words_left self.entry) }
+        ensures told { told_by result ≡ digits_told 0 (words_left self.entry) }
     {
         let mut count = 0;
         for word in self {
             if !characters::text::all_digits(word) {
-                return Err(Fault::PutDigits);
+                return Err(Wrong::new(Fault::PutDigits, count));
             }
             if word.len() % 2 != 0 {
-                return Err(Fault::PutOdd);
+                return Err(Wrong::new(Fault::PutOdd, count));
             }
             count += word.len() / 2;
         }

@@ -1,5 +1,5 @@
 -- docs/UNITS.md: the words for what is wrong with a unit file, for a line that is refused by 70, and for a unit that is not sound.
-use Rattle.std.specs.Prelude.{List, [], ◌∷◌, ◌++◌, ℕ}
+use Rattle.std.specs.Prelude.{List, [], ◌∷◌, ◌++◌, ℕ, Option, Some, None}
 use Rattle.characters.specs.Digits.{text_of}
 use Rattle.lines.specs.Lines.{newline}
 use Rattle.words.specs.Ascii.{ascii}
@@ -42,6 +42,11 @@ fault_words NoStore = ascii "a unit has \"store N\", and no line has it"
 unfoldable pub unit_line : ℕ → Fault → List ℕ
 unit_line number fault = ascii "unit " ++ (decimal_of number ++ (ascii ": " ++ (fault_words fault ++ newline ∷ [])))
 
+-- The line that tells what is wrong with a line of a unit file, if anything is.
+abbrev pub unit_told : ℕ → Option Fault → List ℕ
+unit_told number (Some fault) = unit_line number fault
+unit_told number None = ascii "unit " ++ (decimal_of number ++ (ascii ": " ++ newline ∷ []))
+
 -- Why a line is refused by 70; of any other reason to stop nothing.
 abbrev pub halt_words : Halt → List ℕ
 halt_words Long = ascii "too long"
@@ -53,6 +58,11 @@ halt_words NoPacket = []
 
 unfoldable pub halt_line : Halt → List ℕ
 halt_line h = halt_words h ++ newline ∷ []
+
+-- The same line where there may be no reason to stop: then nothing stands in it.
+abbrev pub halt_told : Option Halt → List ℕ
+halt_told (Some h) = halt_line h
+halt_told None = newline ∷ []
 
 -- A profile that is not sound.
 abbrev pub unsound_line : List ℕ

@@ -6,30 +6,40 @@ ghost use Rattle.characters.specs.Digits.{text_of};
 ghost use Rattle.words.specs.Ascii.{ascii};
 ghost use Rattle.saying.specs.Text.{SaysBy};
 ghost use Rattle.numerals.specs.Numbers.{decimal_of};
-ghost use Rattle.telling.specs.Telling.{fault_words, unit_line, halt_words, halt_line, unsound_line};
+ghost use Rattle.telling.specs.Telling.{fault_words, unit_told, halt_words, halt_told, unsound_line};
 
 use packline::Halt;
 use stating::fault::Fault;
 
 pub mod rows; // rows.rt: a table in text
 
-// The line that tells the first bad line of a unit file.
-pub fn unit_line(number: u64, fault: Fault, text: &mut [u8], at: usize) -> usize
-    ensures { SaysBy (unit_line number fault) at text result }
+// The line that tells what is wrong with a line of a unit file, if anything is.
+pub fn unit_line(number: u64, fault: Option<Fault>, text: &mut [u8], at: usize) -> usize
+    ensures { SaysBy (unit_told number fault) at text result }
 {
     let first = saying::text(text, at, b"unit ");
     let digits = numerals::decimal(text, first, number);
     let colon = saying::text(text, digits, b": ");
-    let words = saying::text(text, colon, fault_words(fault));
-    saying::end(text, words)
+    match fault {
+        Some(fault) => {
+            let words = saying::text(text, colon, fault_words(fault));
+            saying::end(text, words)
+        }
+        None => saying::end(text, colon),
+    }
 }
 
-// The line that tells why a line is refused by 70.
-pub fn halt_line(h: Halt, text: &mut [u8], at: usize) -> usize
-    ensures { SaysBy (halt_line h) at text result }
+// The line that tells why a line is refused by 70, if there is a reason.
+pub fn halt_line(h: Option<Halt>, text: &mut [u8], at: usize) -> usize
+    ensures { SaysBy (halt_told h) at text result }
 {
-    let words = halt_words(h, text, at);
-    saying::end(text, words)
+    match h {
+        Some(halt) => {
+            let words = halt_words(halt, text, at);
+            saying::end(text, words)
+        }
+        None => saying::end(text, at),
+    }
 }
 
 // `refused 41`.

@@ -170,14 +170,14 @@ fn kind_right(f: &[u8]) -> bool
 fn source_right(f: &[u8]) -> bool
     ensures { result ≡ source_right f.now }
 {
-    kind(f).is_some_and(|kind| contents::formed(kind, source(f)))
+    contents::formed(kind(f), source(f))
 }
 
 // What the source data tells, by its kind.
 fn told(f: &[u8]) -> Option<Contents>
     ensures { result ≡ contents_if (kind_in f.now) (source_in f.now) }
 {
-    kind(f).map(|kind| contents::read(kind, source(f)))
+    contents::read(kind(f), source(f))
 }
 
 // The source data.

@@ -5,7 +5,7 @@ ghost use Rattle.std.specs.Prelude.{◌++◌};
 ghost use Rattle.octets.specs.Copy.{placed};
 ghost use Rattle.saying.specs.Text.{SaysBy};
 ghost use Rattle.contents.specs.Source.{entries_in};
-ghost use Rattle.contents.specs.Told.{told_by, dump, check};
+ghost use Rattle.contents.specs.Told.{told_by, told_if, dump, check};
 ghost use Rattle.toldtext.specs.Told.{in_decimal, in_hex, echo_text, failure_text, block_text, entry_text, entries_text, told_text};
 
 use contents::{Checked, Contents, Dumped, Echo, Entry, Failed};
@@ -102,8 +102,18 @@ fn put_checked(frame: &[u8], c: Checked, text: &mut [u8], at: usize) -> usize
     )
 }
 
-// Adds what a frame tells.
-pub fn put_told(frame: &[u8], told: Contents, text: &mut [u8], at: usize) -> usize
+// Adds what a frame tells, if it tells anything.
+pub fn put_told(frame: &[u8], told: Option<Contents>, text: &mut [u8], at: usize) -> usize
+    ensures { SaysBy (told_text (told_if frame.now told)) at text result }
+{
+    match told {
+        Some(contents) => put_contents(frame, contents, text, at),
+        None => saying::kept(text, at),
+    }
+}
+
+// Adds what the contents of a frame tell.
+fn put_contents(frame: &[u8], told: Contents, text: &mut [u8], at: usize) -> usize
     ensures { SaysBy (told_text (told_by frame.now told)) at text result }
 {
     match told {

@@ -12,7 +12,7 @@ use stating::fault::Fault;
 fn bad(d: Desk, fault: Fault) -> Desk
     ensures { result ≡ bad_desk d fault }
 {
-    desk::halting(desk::counted(d), Halt::Unit(fault))
+    desk::halting(desk::counted(d), Some(Halt::Unit(fault)))
 }
 
 // A line of a unit file: what it states, and what it puts into the store.

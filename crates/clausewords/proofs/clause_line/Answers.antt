@@ -3,6 +3,6 @@ use Rattle.saying.proofs.Saying.{says_append}
 use Rattle.clausewords.specs.Clausewords.{clause_line}
 use Rattle.clausewords.proofs.clause_line.Goals as goal
 
-pub returns : goal.returns
+pub returns-in-Err : goal.returns-in-Err
 unfolding clause_line
-returns c = says_append c.clause_words-words.ensures c.end.ensures
+returns-in-Err c = rw c.in-Err.is (says_append c.clause_words-words.ensures c.end-in-Err.ensures)

@@ -6,11 +6,11 @@ use Rattle.blocks.proofs.Walk.{first_found}
 use Rattle.blocks.proofs.reading.first_wrong.Goals as goal
 
 pub returns-in_err-others : goal.returns-in_err-others
-returns-in_err-others g c test is =
+returns-in_err-others g c =
     c.from_residual.ensures ∙ sym (ap (option_map (λ (k : ℕ). k + 1)) c.in_err-others.was)
-    ∙ first_found test c.blocks-2.result c.position.new.self _ _ _ c.position.ensures.ran c.blocks-2.ensures.all (λ x b q k. search (rules, tests))
+    ∙ first_found (g.T.Test.test c.args.test.now) c.blocks-2.result c.position.new.self _ _ _ c.position.ensures.ran c.blocks-2.ensures.all (λ x b q k. search (rules, tests))
 
 pub returns : goal.returns
-returns g c test is =
+returns g c =
     sym (ap (option_map (λ (k : ℕ). k + 1)) c.in_ok-others.was)
-    ∙ first_found test c.blocks-2.result c.position.new.self _ _ _ c.position.ensures.ran c.blocks-2.ensures.all (λ x b q k. search (rules, tests))
+    ∙ first_found (g.T.Test.test c.args.test.now) c.blocks-2.result c.position.new.self _ _ _ c.position.ensures.ran c.blocks-2.ensures.all (λ x b q k. search (rules, tests))
