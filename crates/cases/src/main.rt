@@ -19,13 +19,14 @@ const ANSWER_ROOM: usize = 163840;
 const TEXT_ROOM: usize = 327680;
 
 // The buffers of the program: the input, the octets that a line gives, the store, the output buffer, and the text.
+// They are lent: in one struct by value the compiler takes them for one piece of memory, and reads digits one at a time.
 #[derive(Drop)]
-struct Room {
-    input: [u8; INPUT_ROOM],
-    octets: [u8; GIVEN_MOST],
-    store: [u8; STORE_ROOM],
-    out: [u8; OUT_ROOM],
-    text: [u8; TEXT_ROOM],
+struct Room<'a> {
+    input: &'a mut [u8],
+    octets: &'a mut [u8; GIVEN_MOST],
+    store: &'a mut [u8],
+    out: &'a mut [u8],
+    text: &'a mut [u8],
 }
 
 // How far the program has come: whether the input has ended, the session, how much input waits, and how far the walk over it has come.
@@ -40,17 +41,17 @@ struct Progress {
 fn main(rt: HostRuntime) -> ExitCode {
     let mut console = Console::new(b"cases", rt.stdout(), rt.stderr());
     let mut room = Room {
-        input: [0; INPUT_ROOM],
-        octets: [0; GIVEN_MOST],
-        store: [0; STORE_ROOM],
-        out: [0; OUT_ROOM],
-        text: [0; TEXT_ROOM],
+        input: &mut [0; INPUT_ROOM],
+        octets: &mut [0; GIVEN_MOST],
+        store: &mut [0; STORE_ROOM],
+        out: &mut [0; OUT_ROOM],
+        text: &mut [0; TEXT_ROOM],
     };
     let _ = room.run(&mut console, &mut rt.stdin());
     console.status()
 }
 
-impl Room {
+impl Room<'_> {
     // Serves the input to its end. A proved loop has to end, and nothing says that an input does: the turns are counted, up to a number that no run uses up.
     fn run<O: Write + Drop, E: Write + Drop, F: Read>(
         &mut self,
@@ -80,7 +81,7 @@ impl Room {
         p: Progress,
     ) -> Result<Option<Progress>, Ended> {
         let w = p.walk;
-        let waiting = lines::front(&self.input, p.have);
+        let waiting = lines::front(self.input, p.have);
         let Some(Cut { count, end }) = cut(waiting, w.from, p.ended) else {
             return self.more(console, file, p);
         };
@@ -88,7 +89,7 @@ impl Room {
         let at = self.spared(console, served.at)?;
         let mut next = p;
         next.session = served.session;
-        next.walk = lines::passed(lines::front(&self.input, p.have), w, count, end, at);
+        next.walk = lines::passed(lines::front(self.input, p.have), w, count, end, at);
         Ok(Some(next))
     }
 
@@ -99,17 +100,18 @@ impl Room {
             return Served { session, at };
         }
         if !w.begins {
-            let at = replies::refuse(&mut self.text, at);
+            let at = replies::refuse(self.text, at);
             return Served { session, at };
         }
-        let piece = lines::piece(lines::front(&self.input, have), w.from, count);
+        let input = &mut *self.input;
+        let piece = lines::piece(lines::front(input, have), w.from, count);
         replies::serve(
             session,
             piece,
-            &mut self.octets,
-            &mut self.store,
-            &mut self.out,
-            &mut self.text,
+            self.octets,
+            self.store,
+            self.out,
+            self.text,
             at,
         )
     }
@@ -125,10 +127,10 @@ impl Room {
         if p.ended {
             return Ok(None);
         }
-        let left = lines::carry(&mut self.input, p.have, p.walk);
+        let left = lines::carry(self.input, p.have, p.walk);
         let mut next = p;
         next.walk = from_front(left.begins);
-        match console.read(file, &mut self.input, left.have)? {
+        match console.read(file, self.input, left.have)? {
             Some(have) => next.have = have,
             None => {
                 next.have = left.have;
@@ -157,7 +159,7 @@ impl Room {
         console: &mut Console<O, E>,
         at: usize,
     ) -> Result<(), Ended> {
-        let written = console.write(lines::front(&self.text, at));
+        let written = console.write(lines::front(self.text, at));
         if TEXT_ROOM < at {
             return console.fail(b": an answer is longer than its buffer\n");
         }
