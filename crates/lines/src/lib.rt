@@ -70,7 +70,7 @@ pub fn piece(input: &[u8], from: usize, count: usize) -> &[u8]
 }
 
 // The place of the first newline of some characters, from 0.
-// A loop: the library's `position` says the same, and takes seven instructions a character in place of five.
+// A loop; the library's `position` says the same, and takes as many instructions a character.
 fn newline_in(characters: &[u8]) -> Option<usize>
     ensures { result ≡ position (λ c. c == newline) characters.now }
 {
