@@ -37,7 +37,7 @@ unfoldable pub number_stated : ℕ → Fault → Fault → List (List ℕ) → R
 number_stated most missing large [] = Err missing
 number_stated most missing large (w ∷ ws) = bounded most large (numeral_of w)
 
--- The value of a number, and of what the first of some words states, also where it is larger than it may be; 0 where there is none.
+-- The value of a number, and of what the first of some words states, also where it is above its bound; 0 where no number up to 4294967295 is stated.
 abbrev pub numeral_value : Result ℕ NumeralError → ℕ
 numeral_value (Ok x) = x
 numeral_value (Err e) = 0
